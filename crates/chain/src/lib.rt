@@ -1,0 +1,134 @@
+// Chains of blocks in a map that is lent as bytes: the walk, the table of the blocks, and the cells. Nothing here knows what a cell means.
+use numbers::u32_at;
+ghost use mathlib.Core.Path.{_≡_};
+ghost use Prim.Native.Nat.{ℕ, _+_, _-_, _*_, _%_, _≤_, _<_};
+ghost use lib.ListN.{length, getD};
+ghost use Rattle.chain.specs.Chains.{block, walked, taken};
+ghost use Rattle.chain.specs.Tables.{Empty, Placed, Table, entryMeets, tableMeets, keepsOff, kindRule, goodBlock};
+ghost use Rattle.chain.specs.Cells.{cellAt};
+ghost use Rattle.chain.specs.declared.Walk.the-variants.{Blocks};
+
+// What a walk answers: the number of blocks; or the place of the first link at fault, and the number of blocks before it.
+pub enum Walk {
+    Blocks(usize),
+    Fault { place: usize, taken: usize },
+}
+
+// A kind of chain: where its first link stands and the bytes of a block; and what its blocks keep off: two ranges, and the blocks of another table, of
+// `other_size` bytes each.
+pub struct Kind {
+    pub head: usize,
+    pub size: usize,
+    pub first: usize,
+    pub first_size: usize,
+    pub second: usize,
+    pub second_size: usize,
+    pub other_size: usize,
+}
+
+fn wide(x: u32) -> usize
+    ensures { λ r. ⌜ (r ≡ x) × (r < 4294967296) ⌝ }
+{
+    x as usize
+}
+
+// Whether the entry of bucket b shares a byte with the range.
+fn entry_meets(t: &[u32], size: usize, b: usize, start: usize, len: usize) -> bool
+    requires { ⌜ (b < length (now t)) × (size ≤ 65536) × (start + len ≤ 16777216) ⌝ }
+    ensures { λ r. ⌜ r ≡ entryMeets size (now (t .entry)) start len b ⌝ }
+{
+    let e = wide(t[b]);
+    if e == 0 {
+        return false;
+    }
+    numbers::ranges_share(e, size, start, len)
+}
+
+// Whether some block of the table shares a byte with the range: only the buckets that it can touch are looked at.
+pub fn meets_block(t: &[u32], size: usize, start: usize, len: usize) -> bool
+    requires { ⌜ (0 < size) × (size ≤ 65536) × (start + len ≤ 16777216) × (start + len ≤ length (now t) * size) × Placed size (now t) ⌝ }
+    ensures { λ r. ⌜ r ≡ tableMeets size (now (t .entry)) start len ⌝ }
+{
+    if len == 0 {
+        return false;
+    }
+    let last = (start + len - 1) / size;
+    let mut b = start / size;
+    if 0 < b {
+        b -= 1;
+    }
+    while b <= last {
+        if entry_meets(t, size, b, start, len) {
+            return true;
+        }
+        b += 1;
+    }
+    false
+}
+
+// Whether a block at p would meet what its kind keeps off.
+fn keeps_off(kind: Kind, other: &[u32], p: usize) -> bool
+    requires { ⌜ (kind .size ≤ 65536) × (p + kind .size ≤ 16777216) × (kind .first < 4294967296) × (kind .first_size < 4294967296) × (kind .second < 4294967296) × (kind .second_size < 4294967296) × (0 < kind .other_size) × (kind .other_size ≤ 65536) × (p + kind .size ≤ length (now other) * kind .other_size) × Placed (kind .other_size) (now other) ⌝ }
+    ensures { λ r. ⌜ r ≡ keepsOff kind (now (other .entry)) p ⌝ }
+{
+    let size = kind.size;
+    if numbers::ranges_share(kind.first, kind.first_size, p, size) {
+        return true;
+    }
+    if numbers::ranges_share(kind.second, kind.second_size, p, size) {
+        return true;
+    }
+    meets_block(other, kind.other_size, p, size)
+}
+
+// The walk over a chain. The table is empty before, and has the blocks that were taken after.
+pub fn walk(m: &[u8], used: usize, kind: Kind, other: &[u32], t: &mut [u32]) -> Walk
+    requires { ⌜ (used ≤ length (now m)) × Ready kind used (now other) (now t) × Empty (now t) ⌝ }
+    ensures { λ r. ⌜ (r ≡ walked (kindRule kind (now (other .entry))) (now (m .entry)) used) × Table (kind .head) (kind .size) (now (m .entry)) (taken (kindRule kind (now (other .entry))) (now (m .entry)) used) (now (t .exit)) ⌝ }
+{
+    let size = kind.size;
+    let mut n = 0;
+    let mut at = kind.head;
+    loop {
+        let p = wide(u32_at(m, at));
+        if p == 0 {
+            return Walk::Blocks(n);
+        }
+        if can_be_block(kind, other, t, used, p) {
+            t[p / size] = p as u32;
+            at = p;
+            n += 1;
+        } else {
+            return Walk::Fault {
+                place: at,
+                taken: n,
+            };
+        }
+    }
+}
+
+// Where the cell after cell c stands: in the same block, or first in the block that the link points to.
+pub fn next_cell(m: &[u8], at: usize, c: usize, width: usize) -> usize
+    requires { ⌜ (at ≤ length (now m)) × (width ≤ 256) × (c % 256 ≡ 255 → 4 + 255 * width ≤ at) ⌝ }
+    ensures { λ r. ⌜ ((h : ℕ) → at ≡ cellAt h width (now (m .entry)) c → r ≡ cellAt h width (now (m .entry)) (c + 1)) ⌝ }
+{
+    if c % 256 != 255 {
+        return at + width;
+    }
+    wide(u32_at(m, at - 255 * width - 4)) + 4
+}
+
+// The blocks of a chain in their order, so that a cell is found in one step.
+pub fn order_blocks(m: &[u8], head: usize, n: usize, order: &mut [u32])
+    requires { ⌜ (head + 4 ≤ length (now m)) × ((k : ℕ) → k < n → block head (now m) k + 4 ≤ length (now m)) × (n ≤ length (now order)) ⌝ }
+    ensures { λ r. ⌜ Ordered head (now (m .entry)) n (now (order .exit)) ⌝ }
+{
+    let mut at = head;
+    let mut k = 0;
+    while k < n {
+        let p = u32_at(m, at);
+        order[k] = p;
+        at = wide(p);
+        k += 1;
+    }
+}

@@ -1,0 +1,138 @@
+-- The laws of signed numbers and coordinates: the signed reading is the machine's, rounding down is what it should be, and keys are ordered as
+-- values are. Assumes nothing.
+use mathlib.Core.Path.{_≡_, refl, sym, ap, _∙_}
+use mathlib.Core.Logic.{_⊎_, inl, inr, ⊎-elim}
+use mathlib.Core.Bool.{Bool, true, false, cond}
+use Prim.Native.Nat.{ℕ, zero, suc, _+_, _-_, _*_, _/_, _%_, _^_, _≤_, _<_}
+use mathlib.Core.List.{List, [], _∷_, map}
+use native.Mathlib.Nat.{zero-add, mod-lt, div-add-mod', suc-mul}
+use native.Mathlib.Omega.{arith}
+use lib.Dec.{ltb, leb}
+use lib.IntN.{ℤ, pos, negsuc, _+ℤ_, _-ℤ_, _*ℤ_}
+use lib.Signed.{leZ, shrZ, mag-shr}
+use mir.Syntax.{w32}
+use mir.Val.{toZ, sel, SFits}
+use mir.ValLaws.{sfits-le}
+use mir.Facts.{sfits-toZ}
+use borrow.Author.Tests.{lt-ltb, le-ltb, le-leb, lt-leb, leb-true, leb-false, ltb-true, ltb-false}
+use Rattle.numbers.specs.Coordinates.{signed, signed16, signed32, floorDiv, valueOf, unmarked, key}
+
+-- a number is below a bound, or it is not
+pub lt-or-ge : (n m : ℕ) → (n < m) ⊎ (m ≤ n)
+lt-or-ge n m = go (ltb n m) refl
+  where
+    go : (b : Bool) → ltb n m ≡ b → (n < m) ⊎ (m ≤ n)
+    go true e = inl (ltb-true n m e)
+    go false e = inr (ltb-false n m e)
+
+-- ---- signed numbers, over the sign bit
+
+pub signed-low : (h n : ℕ) → n < h → signed h n ≡ pos n
+unfolding signed
+signed-low h n l = rw (lt-ltb n h l)
+
+pub signed-high : (h n : ℕ) → h ≤ n → signed h n ≡ negsuc (2 * h - 1 - n)
+unfolding signed
+signed-high h n l = rw (le-ltb n h l)
+
+-- the signed reading is the machine's
+cond-sel : (b : Bool) (x y : ℤ) → cond b x y ≡ sel b x y
+cond-sel true x y = refl
+cond-sel false x y = refl
+
+pub signed-toZ : (n : ℕ) → signed32 n ≡ toZ w32 n
+unfolding signed
+signed-toZ n =
+    let e : 4294967295 - n ≡ 4294967296 - suc n = omega arith in
+    rw e (cond-sel (ltb n 2147483648) (pos n) (negsuc (4294967296 - suc n)))
+
+-- -1 less m
+pub minus-one-less : (m : ℕ) → negsuc 0 -ℤ pos m ≡ negsuc m
+minus-one-less zero = refl
+minus-one-less (suc m) = ap (λ (k : ℕ). negsuc (suc k)) (zero-add m)
+
+-- ---- rounding down: z is the quotient times m and a remainder that is not negative and below m
+
+pub floor-char : (z : ℤ) (m : ℕ) → 0 < m → (r : ℕ) × (r < m) × (z ≡ floorDiv z m *ℤ pos m +ℤ pos r)
+floor-char (pos a) m h = (a % m, mod-lt a h, ap pos (sym (div-add-mod' a m)))
+floor-char (negsuc a) m h =
+    let l : a % m < m = mod-lt a h in
+    let r : ℕ = m - 1 - a % m in
+    let e : a / m * m + a % m ≡ a = div-add-mod' a m in
+    let q : suc (a / m) * m ≡ suc (a + r) = rw suc-mul (omega arith) in
+    let d : suc (a + r) - suc r ≡ a = omega arith in
+    (r, omega arith, rw (q, lt-ltb r (suc (a + r)) (omega arith), d))
+
+floor-shr : (z : ℤ) (m : ℕ) → shrZ z m ≡ floorDiv z m
+floor-shr (pos a) m = refl
+floor-shr (negsuc a) m = refl
+
+-- the value of 32 bits fits 32 bits
+pub value-fits : (n : ℕ) → n < 2 ^ 32 → SFits w32 (valueOf n)
+unfolding valueOf
+value-fits n h = rw (signed-toZ n, ← floor-shr (toZ w32 n) 256) (sfits-le (mag-shr (toZ w32 n) 256) (sfits-toZ (record { fits = h })))
+
+-- ---- keys
+
+leb-same : (a b c d : ℕ) → (a ≤ b → c ≤ d) → (b < a → d < c) → leb a b ≡ leb c d
+leb-same a b c d f g = go (leb a b) refl
+  where
+    go : (t : Bool) → leb a b ≡ t → leb a b ≡ leb c d
+    go true e = e ∙ sym (le-leb c d (f (leb-true a b e)))
+    go false e = e ∙ sym (lt-leb c d (g (leb-false a b e)))
+
+-- keys are ordered as the signed numbers are
+pub leZ-key : (a b : ℤ) → SFits w32 a → SFits w32 b → leZ a b ≡ leb (key a) (key b)
+leZ-key (pos a) (pos b) f g = leb-same a b (2147483648 + a) (2147483648 + b) (λ h. omega arith) (λ h. omega arith)
+leZ-key (pos a) (negsuc b) f g = sym (lt-leb (2147483648 + a) (2147483647 - b) (omega arith))
+leZ-key (negsuc a) (pos b) f g = sym (le-leb (2147483647 - a) (2147483648 + b) (omega arith))
+leZ-key (negsuc a) (negsuc b) f g =
+    leb-same b a (2147483647 - a) (2147483647 - b) (λ h. omega (arith, f .sfits, g .sfits)) (λ h. omega (arith, f .sfits, g .sfits))
+
+-- the same for two raw coordinates
+pub leZ-value : (a b : ℕ) → a < 2 ^ 32 → b < 2 ^ 32 → leZ (valueOf a) (valueOf b) ≡ leb (key (valueOf a)) (key (valueOf b))
+leZ-value a b f g = leZ-key (valueOf a) (valueOf b) (value-fits a f) (value-fits b g)
+
+pub key-lt : (z : ℤ) → SFits w32 z → key z < 2 ^ 32
+key-lt (pos n) f = omega (arith, f .sfits)
+key-lt (negsuc n) f = omega arith
+
+-- a signed number is made a key by a sum
+pub key-sum : (z : ℤ) → SFits w32 z → z +ℤ pos 2147483648 ≡ pos (key z)
+key-sum (pos n) f = let e : n + 2147483648 ≡ 2147483648 + n = omega arith in rw e
+key-sum (negsuc n) f =
+    let e : 2147483648 - suc n ≡ 2147483647 - n = omega arith in
+    rw (le-ltb 2147483648 (suc n) (omega (arith, f .sfits)), e)
+
+-- the key of a raw coordinate's value, from its bits
+key-low : (n : ℕ) → n < 2147483648 → key (valueOf n) ≡ 2147483648 + n / 256
+unfolding valueOf
+key-low n h = rw (signed-low 2147483648 n h)
+
+key-high : (n : ℕ) → 2147483648 ≤ n → n < 2 ^ 32 → key (valueOf n) ≡ 2130706432 + n / 256
+unfolding valueOf
+key-high n h k = rw (signed-high 2147483648 n h) (omega arith)
+
+pub key-flat : (n : ℕ) → n < 2 ^ 32 → 2139095040 + (n + 2147483648) % 4294967296 / 256 ≡ key (valueOf n)
+key-flat n h =
+    ⊎-elim (λ l. rw (key-low n l) (omega arith)) (λ l. rw (key-high n l h) (omega arith)) (lt-or-ge n 2147483648)
+
+-- ---- the marks do not count
+
+pub unmarked-value : (n : ℕ) → n < 2 ^ 32 → valueOf (unmarked n) ≡ valueOf n
+unfolding valueOf unmarked
+unmarked-value n h =
+    ⊎-elim
+    (λ l.
+    let e : n / 256 * 256 / 256 ≡ n / 256 = omega arith in
+    rw (signed-low 2147483648 (n / 256 * 256) (omega arith), signed-low 2147483648 n l, e))
+    (λ l.
+    let e : (4294967295 - n / 256 * 256) / 256 ≡ (4294967295 - n) / 256 = omega arith in
+    rw (signed-high 2147483648 (n / 256 * 256) (omega arith), signed-high 2147483648 n l, e))
+    (lt-or-ge n 2147483648)
+
+-- ---- document 01's table: the raw numbers as bits, and their values
+pub table : map valueOf (25602 ∷ 255 ∷ 4294967295 ∷ 4294967040 ∷ 4294967039 ∷ 2147483647 ∷ 2147483648 ∷ [])
+    ≡ pos 100 ∷ pos 0 ∷ negsuc 0 ∷ negsuc 0 ∷ negsuc 1 ∷ pos 8388607 ∷ negsuc 8388607 ∷ []
+unfolding valueOf signed
+table = refl

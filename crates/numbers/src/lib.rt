@@ -1,0 +1,166 @@
+// Numbers in bytes, coordinates, ranges and runs of bytes. Nothing here knows what a map is.
+ghost use mathlib.Core.Path.{_≡_};
+ghost use mathlib.Core.Bool.{cond};
+ghost use Prim.Native.Nat.{_+_, _*_, _≤_, _<_};
+ghost use lib.ListN.{length, replicate};
+ghost use lib.Seq.{sets};
+ghost use lib.Signed.{leZ};
+ghost use Rattle.numbers.specs.Bytes.{u16At, u32At, bytesOf, sameBytes};
+ghost use Rattle.numbers.specs.Coordinates.{signed16, valueOf, unmarked, key};
+ghost use Rattle.numbers.specs.Ranges.{share};
+
+// ---- little-endian numbers
+
+fn wide16(x: u8) -> u16
+    ensures { λ r. ⌜ (r ≡ x) × (r < 256) ⌝ }
+{
+    x as u16
+}
+
+// The sixteen-bit number at a place.
+pub fn u16_at(s: &[u8], at: usize) -> u16
+    requires { ⌜ at + 2 ≤ length (now s) ⌝ }
+    ensures { λ r. ⌜ r ≡ u16At (now (s .entry)) at ⌝ }
+{
+    wide16(s[at]) + 256 * wide16(s[at + 1])
+}
+
+// The thirty-two-bit number at a place.
+pub fn u32_at(s: &[u8], at: usize) -> u32
+    requires { ⌜ at + 4 ≤ length (now s) ⌝ }
+    ensures { λ r. ⌜ r ≡ u32At (now (s .entry)) at ⌝ }
+{
+    u16_at(s, at) as u32 + 65536 * (u16_at(s, at + 2) as u32)
+}
+
+// Two bytes, stored at the start of a part.
+fn put_u16(s: &mut [u8], v: u16)
+    requires { ⌜ 2 ≤ length (now s) ⌝ }
+    ensures { λ r. ⌜ now (s .exit) ≡ sets (now (s .entry)) 0 (bytesOf 2 v) ⌝ }
+{
+    s[0] = (v % 256) as u8;
+    s[1] = (v / 256 % 256) as u8;
+}
+
+// Four bytes, stored at the start of a part.
+fn put_u32(s: &mut [u8], v: u32)
+    requires { ⌜ 4 ≤ length (now s) ⌝ }
+    ensures { λ r. ⌜ now (s .exit) ≡ sets (now (s .entry)) 0 (bytesOf 4 v) ⌝ }
+{
+    s[0] = (v % 256) as u8;
+    s[1] = (v / 256 % 256) as u8;
+    s[2] = (v / 256 / 256 % 256) as u8;
+    s[3] = (v / 256 / 256 / 256 % 256) as u8;
+}
+
+// The two bytes of a number, stored at a place.
+pub fn put_u16_at(s: &mut [u8], at: usize, v: u16)
+    requires { ⌜ at + 2 ≤ length (now s) ⌝ }
+    ensures { λ r. ⌜ now (s .exit) ≡ sets (now (s .entry)) at (bytesOf 2 v) ⌝ }
+{
+    put_u16(&mut s[at..], v);
+}
+
+// The four bytes of a number, stored at a place.
+pub fn put_u32_at(s: &mut [u8], at: usize, v: u32)
+    requires { ⌜ at + 4 ≤ length (now s) ⌝ }
+    ensures { λ r. ⌜ now (s .exit) ≡ sets (now (s .entry)) at (bytesOf 4 v) ⌝ }
+{
+    put_u32(&mut s[at..], v);
+}
+
+// ---- coordinates
+
+// The key of a raw coordinate's value, with no branch: the sign bit is flipped and the marks are dropped.
+pub fn key_of_raw(raw: u32) -> u32
+    ensures { λ r. ⌜ r ≡ key (valueOf raw) ⌝ }
+{
+    2139095040 + (((raw as u64 + 2147483648) % 4294967296 / 256) as u32)
+}
+
+// The key of a value.
+pub fn key_of_value(z: i32) -> u32
+    ensures { λ r. ⌜ r ≡ key z ⌝ }
+{
+    (z as i64 + 2147483648) as u32
+}
+
+// Whether one raw coordinate is at most another, by value.
+pub fn at_most(a: u32, b: u32) -> bool
+    ensures { λ r. ⌜ r ≡ leZ (valueOf a) (valueOf b) ⌝ }
+{
+    key_of_raw(a) <= key_of_raw(b)
+}
+
+// A raw coordinate without its marks.
+pub fn without_marks(raw: u32) -> u32
+    ensures { λ r. ⌜ r ≡ unmarked raw ⌝ }
+{
+    raw / 256 * 256
+}
+
+// The signed number of sixteen bits.
+pub fn signed_of(n: u16) -> i32
+    ensures { λ r. ⌜ r ≡ signed16 n ⌝ }
+{
+    if n < 32768 {
+        n as i32
+    } else {
+        -1 - ((65535 - n) as i32)
+    }
+}
+
+// ---- ranges
+
+// Whether two ranges share a byte.
+pub fn ranges_share(a: usize, n: usize, b: usize, k: usize) -> bool
+    requires { ⌜ (a + n < 8589934592) × (b + k < 8589934592) ⌝ }
+    ensures { λ r. ⌜ r ≡ share a n b k ⌝ }
+{
+    let lo = if a < b { b } else { a };
+    let hi = if a + n < b + k { a + n } else { b + k };
+    lo < hi
+}
+
+// ---- runs of bytes
+
+// The bytes of s over the first of d.
+pub fn copy_in(d: &mut [u8], s: &[u8])
+    requires { ⌜ length (now s) ≤ length (now d) ⌝ }
+    ensures { λ r. ⌜ now (d .exit) ≡ sets (now (d .entry)) 0 (now (s .entry)) ⌝ }
+{
+    let mut i = 0;
+    while i < s.len() {
+        d[i] = s[i];
+        i += 1;
+    }
+}
+
+// n zeros over the first of d.
+pub fn clear(d: &mut [u8], n: usize)
+    requires { ⌜ n ≤ length (now d) ⌝ }
+    ensures { λ r. ⌜ now (d .exit) ≡ sets (now (d .entry)) 0 (replicate n 0) ⌝ }
+{
+    let mut i = 0;
+    while i < n {
+        d[i] = 0;
+        i += 1;
+    }
+}
+
+// Whether two slices hold the same bytes.
+pub fn same(a: &[u8], b: &[u8]) -> bool
+    ensures { λ r. ⌜ r ≡ sameBytes (now (a .entry)) (now (b .entry)) ⌝ }
+{
+    if a.len() != b.len() {
+        return false;
+    }
+    let mut i = 0;
+    while i < a.len() {
+        if a[i] != b[i] {
+            return false;
+        }
+        i += 1;
+    }
+    true
+}

@@ -1,0 +1,16 @@
+-- `records::type_good` meets its contract, test by test. Assumes nothing.
+use borrow.Author.Tests.{eq-eqb, ne-eqb, le-leb, lt-leb, lt-ltb, le-ltb}
+use Rattle.records.specs.Objects.{typeGood}
+use Rattle.records.proofs.type_good.Statement.{statement}
+use Rattle.records.proofs.type_good.Tie as tie
+
+returns : tie.Need-returns
+unfolding typeGood
+returns c = rw (lt-leb _ _ (c .if1 .taken))
+
+returns-2 : tie.Need-returns-2
+unfolding typeGood
+returns-2 c = rw (le-leb _ _ (c .if1 .left))
+
+pub type-good-spec : {M : Type 1} → statement M
+type-good-spec = tie.close (tie.spec returns returns-2)

@@ -1,0 +1,41 @@
+-- How many bytes each kind of record has, each written once, and the limits of document 01.
+use Prim.Native.Nat.{ℕ}
+
+-- the header
+abbrev pub headerSize : ℕ
+headerSize = 48
+
+-- an index block: a link of 4 bytes, then 256 slots
+abbrev pub indexBlockSize : ℕ
+indexBlockSize = 6148
+
+abbrev pub slotSize : ℕ
+slotSize = 24
+
+-- a symbol block: a link of 4 bytes, then 256 entries
+abbrev pub symbolBlockSize : ℕ
+symbolBlockSize = 1028
+
+abbrev pub entrySize : ℕ
+entrySize = 4
+
+-- a symbol record is at least so long: the part that all symbols have
+abbrev pub symbolRecordSize : ℕ
+symbolRecordSize = 348
+
+-- an object: its header, then its coordinate pairs
+abbrev pub objectHeaderSize : ℕ
+objectHeaderSize = 32
+
+abbrev pub pairSize : ℕ
+pairSize = 8
+
+abbrev pub journalRecordSize : ℕ
+journalRecordSize = 16
+
+-- a map is at most so long, and a journal
+abbrev pub mapLimit : ℕ
+mapLimit = 16777216
+
+abbrev pub journalLimit : ℕ
+journalLimit = 65536
