@@ -10,9 +10,13 @@
 --     stops r m used k      whether a walk stops at link k: it is 0, or it is at fault
 --     taken r m used        how many blocks a walk takes before it stops (it always stops before `used`: proved)
 --     walked r m used       what a walk answers: the number of blocks where it stops at a link of 0; else the place of the link at fault
+-- The same chain as a list, for a reader; no contract cites it:
+--     Links m at bs         the blocks along the links, from the one at `at` to a link of 0, are bs
+--     blocksOf h m n        the first n blocks in their order
 use Prim.Native.Nat.{ℕ, zero, suc}
 use mathlib.Core.Bool.{Bool, not, cond, _||_}
-use mathlib.Core.List.{List}
+use mathlib.Core.List.{List, [], _∷_}
+use mathlib.Core.Path.{_≡_}
 use lib.Dec.{eqb}
 use Rattle.numbers.specs.Bytes.{u32At}
 use Rattle.numbers.specs.Ranges.{share, within}
@@ -55,3 +59,11 @@ walked r m used =
     cond (eqb (block (r .head) m (taken r m used)) 0)
     (Blocks (taken r m used))
     (Fault (place (r .head) m (taken r m used)) (taken r m used))
+
+pub data Links (m : List ℕ) : ℕ → List ℕ → Type 0 where
+  end : {at : ℕ} → u32At m at ≡ 0 → Links m at []
+  link : {at p : ℕ} {bs : List ℕ} → u32At m at ≡ p → (p ≡ 0 → ⊥) → Links m p bs → Links m at (p ∷ bs)
+
+unfoldable pub blocksOf : ℕ → List ℕ → ℕ → List ℕ
+blocksOf h m zero = []
+blocksOf h m (suc n) = u32At m h ∷ blocksOf (u32At m h) m n

@@ -5,9 +5,12 @@
 --     Table h n m k t           the entries are exactly the first k blocks of the chain whose first link stands at h
 --     entryMeets n t p len b    whether the entry of bucket b shares a byte with the len bytes from p on
 --     tableMeets n t p len      whether some entry does
---     keepsOff                  the test of a kind of chain in the code: two ranges, and the blocks of another table
---     kindRule                  that kind as a rule
-use Prim.Native.Nat.{ℕ, _/_, _<_}
+--     keepsOff k other p        the test of a kind of chain in the code: whether a block at p shares a byte with its two ranges or a block of another table
+--     kindRule k other          that kind as a rule
+--     goodBlock r t used p      whether p can be a block of the map, by the table of the blocks before it
+--     Bounds k end other        what the test of a kind needs of a block that ends at `end`: numbers small enough, and another table that reaches as far
+--     Ready k used other t      what a walk needs: the same for every block of the map, and a table of its own that reaches as far
+use Prim.Native.Nat.{ℕ, _+_, _*_, _/_, _≤_, _<_}
 use mathlib.Core.Bool.{Bool, not, _&&_, _||_}
 use mathlib.Core.List.{List}
 use mathlib.Core.Path.{_≡_}
@@ -15,6 +18,7 @@ use lib.ListN.{getD, length}
 use lib.Dec.{eqb}
 use Rattle.numbers.specs.Ranges.{share}
 use Rattle.numbers.specs.Below.{any}
+use Rattle.records.specs.Sizes.{headerSize, mapLimit}
 use Rattle.chain.specs.declared.Kind.{Kind}
 use Rattle.chain.specs.Chains.{Rule, block, inside}
 
@@ -38,11 +42,29 @@ tableMeets n t p len = any (entryMeets n t p len) (length t)
 
 unfoldable pub keepsOff : Kind → List ℕ → ℕ → Bool
 keepsOff k other p =
-    share (k .first) (k .first_size) p (k .size) || (share (k .second) (k .second_size) p (k .size) || tableMeets (k .other_size) other p (k .size))
+    share (k .first) (k .«first_size») p (k .size) || (share (k .second) (k .«second_size») p (k .size) || tableMeets (k .«other_size») other p (k .size))
 
 abbrev pub kindRule : Kind → List ℕ → Rule
 kindRule k other = record { head = k .head; size = k .size; taboo = keepsOff k other }
 
--- whether p can be a block of the map, by the table of the blocks before it
 unfoldable pub goodBlock : Rule → List ℕ → ℕ → ℕ → Bool
 goodBlock r t used p = inside used (r .size) p && not (r .taboo p) && not (tableMeets (r .size) t p (r .size))
+
+pub record Bounds (k : Kind) (end : ℕ) (other : List ℕ) : Type 0 where
+  pub most : end ≤ mapLimit
+  pub block-most : k .size ≤ 65536
+  pub first-fits : k .first < 4294967296
+  pub first-size-fits : k .«first_size» < 4294967296
+  pub second-fits : k .second < 4294967296
+  pub second-size-fits : k .«second_size» < 4294967296
+  pub other-least : 0 < k .«other_size»
+  pub other-most : k .«other_size» ≤ 65536
+  pub other-wide : end ≤ length other * k .«other_size»
+  pub other-placed : Placed (k .«other_size») other
+
+pub record Ready (k : Kind) (used : ℕ) (other t : List ℕ) : Type 0 where
+  pub bounds : Bounds k used other
+  pub least : headerSize ≤ used
+  pub block-least : 4 ≤ k .size
+  pub head-in : k .head + 4 ≤ headerSize
+  pub wide : used ≤ length t * k .size

@@ -1,12 +1,12 @@
 // Chains of blocks in a map that is lent as bytes: the walk, the table of the blocks, and the cells. Nothing here knows what a cell means.
 use numbers::u32_at;
+use records::Header;
 ghost use mathlib.Core.Path.{_≡_};
 ghost use Prim.Native.Nat.{ℕ, _+_, _-_, _*_, _%_, _≤_, _<_};
-ghost use lib.ListN.{length, getD};
+ghost use lib.ListN.{length};
 ghost use Rattle.chain.specs.Chains.{block, walked, taken};
-ghost use Rattle.chain.specs.Tables.{Empty, Placed, Table, entryMeets, tableMeets, keepsOff, kindRule, goodBlock};
-ghost use Rattle.chain.specs.Cells.{cellAt};
-ghost use Rattle.chain.specs.declared.Walk.the-variants.{Blocks};
+ghost use Rattle.chain.specs.Tables.{Empty, Placed, Table, entryMeets, tableMeets, keepsOff, kindRule, goodBlock, Bounds, Ready};
+ghost use Rattle.chain.specs.Cells.{cellAt, Ordered};
 
 // What a walk answers: the number of blocks; or the place of the first link at fault, and the number of blocks before it.
 pub enum Walk {
@@ -68,7 +68,7 @@ pub fn meets_block(t: &[u32], size: usize, start: usize, len: usize) -> bool
 
 // Whether a block at p would meet what its kind keeps off.
 fn keeps_off(kind: Kind, other: &[u32], p: usize) -> bool
-    requires { ⌜ (kind .size ≤ 65536) × (p + kind .size ≤ 16777216) × (kind .first < 4294967296) × (kind .first_size < 4294967296) × (kind .second < 4294967296) × (kind .second_size < 4294967296) × (0 < kind .other_size) × (kind .other_size ≤ 65536) × (p + kind .size ≤ length (now other) * kind .other_size) × Placed (kind .other_size) (now other) ⌝ }
+    requires { ⌜ Bounds kind (p + kind .size) (now other) ⌝ }
     ensures { λ r. ⌜ r ≡ keepsOff kind (now (other .entry)) p ⌝ }
 {
     let size = kind.size;
@@ -81,8 +81,26 @@ fn keeps_off(kind: Kind, other: &[u32], p: usize) -> bool
     meets_block(other, kind.other_size, p, size)
 }
 
+// Whether p can be the next block of a chain, by the table of its blocks so far.
+fn can_be_block(kind: Kind, other: &[u32], t: &[u32], used: usize, p: usize) -> bool
+    requires { ⌜ Ready kind used (now other) (now t) × Placed (kind .size) (now t) × (p < 4294967296) ⌝ }
+    ensures { λ r. ⌜ r ≡ goodBlock (kindRule kind (now (other .entry))) (now (t .entry)) used p ⌝ }
+{
+    let size = kind.size;
+    if p < Header::SIZE {
+        return false;
+    }
+    if used < p + size {
+        return false;
+    }
+    if keeps_off(kind, other, p) {
+        return false;
+    }
+    !meets_block(t, size, p, size)
+}
+
 // The walk over a chain. The table is empty before, and has the blocks that were taken after.
-pub fn walk(m: &[u8], used: usize, kind: Kind, other: &[u32], t: &mut [u32]) -> Walk
+pub fn walk_chain(m: &[u8], used: usize, kind: Kind, other: &[u32], t: &mut [u32]) -> Walk
     requires { ⌜ (used ≤ length (now m)) × Ready kind used (now other) (now t) × Empty (now t) ⌝ }
     ensures { λ r. ⌜ (r ≡ walked (kindRule kind (now (other .entry))) (now (m .entry)) used) × Table (kind .head) (kind .size) (now (m .entry)) (taken (kindRule kind (now (other .entry))) (now (m .entry)) used) (now (t .exit)) ⌝ }
 {

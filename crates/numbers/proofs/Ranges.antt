@@ -24,10 +24,20 @@ pub share-empty : (a n b : ℕ) → share a n b 0 ≡ false
 unfolding share
 share-empty a n b = le-ltb (max a b) (min (a + n) (b + 0)) (omega arith)
 
+pub share-none : (a b k : ℕ) → share a 0 b k ≡ false
+unfolding share
+share-none a b k = le-ltb (max a b) (min (a + 0) (b + k)) (omega arith)
+
 -- ranges with no byte in common do not reach into each other
 pub share-no : {a n b k : ℕ} → share a n b k ≡ false → 0 < n → 0 < k → a < b + k → b < a + n → ⊥
 unfolding share
 share-no {a} {n} {b} {k} e x y l h = omega (arith, ltb-false (max a b) (min (a + n) (b + k)) e)
+
+-- what shares no byte with a range shares none with a part of it
+pub share-part : (a n b k i j : ℕ) → share a n b k ≡ false → b ≤ i → i + j ≤ b + k → share a n i j ≡ false
+unfolding share
+share-part a n b k i j e l h =
+    le-ltb (max a i) (min (a + n) (i + j)) (omega (arith, ltb-false (max a b) (min (a + n) (b + k)) e))
 
 pub share-comm : (a n b k : ℕ) → share a n b k ≡ share b k a n
 unfolding share

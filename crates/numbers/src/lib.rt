@@ -1,12 +1,11 @@
 // Numbers in bytes, coordinates, ranges and runs of bytes. Nothing here knows what a map is.
 ghost use mathlib.Core.Path.{_≡_};
-ghost use mathlib.Core.Bool.{cond};
 ghost use Prim.Native.Nat.{_+_, _*_, _≤_, _<_};
 ghost use lib.ListN.{length, replicate};
 ghost use lib.Seq.{sets};
 ghost use lib.Signed.{leZ};
 ghost use Rattle.numbers.specs.Bytes.{u16At, u32At, bytesOf, sameBytes};
-ghost use Rattle.numbers.specs.Coordinates.{signed16, valueOf, unmarked, key};
+ghost use Rattle.numbers.specs.Coordinates.{signed16, signed32, valueOf, unmarked, key};
 ghost use Rattle.numbers.specs.Ranges.{share};
 
 // ---- little-endian numbers
@@ -100,13 +99,24 @@ pub fn without_marks(raw: u32) -> u32
 }
 
 // The signed number of sixteen bits.
-pub fn signed_of(n: u16) -> i32
+pub fn signed16_of(n: u16) -> i32
     ensures { λ r. ⌜ r ≡ signed16 n ⌝ }
 {
     if n < 32768 {
         n as i32
     } else {
         -1 - ((65535 - n) as i32)
+    }
+}
+
+// The signed number of thirty-two bits.
+pub fn signed32_of(n: u32) -> i32
+    ensures { λ r. ⌜ r ≡ signed32 n ⌝ }
+{
+    if n < 2147483648 {
+        n as i32
+    } else {
+        -1 - ((4294967295 - n) as i32)
     }
 }
 

@@ -69,9 +69,9 @@ slot-cong xs ys a b h =
     (go 2 20 (omega arith)) (go 2 22 (omega arith))
 
 -- the slot of the 24 bytes
-own : (t : Slot) → SlotFits t → slotOf (slotBytes t) 0 ≡ t
+pub slot-own : (t : Slot) → SlotFits t → slotOf (slotBytes t) 0 ≡ t
 unfolding slotOf slotBytes bytesOf
-own t f =
+slot-own t f =
     let p1 : List ℕ = bytesOf 4 (t .left) in
     let p2 : List ℕ = p1 ++ bytesOf 4 (t .bottom) in
     let p3 : List ℕ = p2 ++ bytesOf 4 (t .right) in
@@ -93,4 +93,4 @@ slot-back t xs at f h =
     let l : length (slotBytes t) ≡ 24 = length-slotBytes t in
     slot-cong (sets xs at (slotBytes t)) (slotBytes t) at 0
     (λ k hk. rw zero-add (getD-sets-in (slotBytes t) xs at k (omega arith) (omega arith)))
-    ∙ own t f
+    ∙ slot-own t f

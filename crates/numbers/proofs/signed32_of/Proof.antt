@@ -1,4 +1,4 @@
--- `numbers::signed_of` meets its contract, in the two cases of the sign. Assumes nothing.
+-- `numbers::signed32_of` meets its contract, in the two cases of the sign. Assumes nothing.
 use borrow.Author.Needs.{needs}
 use Prim.Native.Nat.{_-_, _<_}
 use mathlib.Core.Path.{_≡_, sym}
@@ -8,12 +8,12 @@ use mir.Syntax.{w32}
 use mir.Val.{SFits}
 use mir.Facts.{toZ-ofZ, toZ-pos}
 use Rattle.numbers.proofs.Coordinates.{signed-low, signed-high, minus-one-less}
-use Rattle.numbers.proofs.signed_of.Statement.{statement}
-use Rattle.numbers.proofs.signed_of.Tie as tie
+use Rattle.numbers.proofs.signed32_of.Statement.{statement}
+use Rattle.numbers.proofs.signed32_of.Tie as tie
 
 sub-result-2 : tie.Need-sub-result-2
 sub-result-2 c =
-    let m = 65535 - c .before .args .n in
+    let m = 4294967295 - c .before .args .n in
     let h : m < 2147483648 = omega arith in
     rw (toZ-pos w32 h, minus-one-less) (record { sfits = h })
 
@@ -21,15 +21,15 @@ returns : tie.Need-returns
 returns c =
     let n = c .before .args .n in
     let h : n < 2147483648 = omega arith in
-    rw (toZ-pos w32 h, signed-low 32768 n (c .if1 .taken))
+    rw (toZ-pos w32 h, signed-low 2147483648 n (c .if1 .taken))
 
 returns-2 : tie.Need-returns-2
 returns-2 c =
-    let m = 65535 - c .before .args .n in
+    let m = 4294967295 - c .before .args .n in
     let h : m < 2147483648 = omega arith in
     let f : SFits w32 (negsuc m) = record { sfits = h } in
-    rw (toZ-pos w32 h, minus-one-less, toZ-ofZ f, signed-high 32768 (c .before .args .n) (c .if1 .left))
+    rw (toZ-pos w32 h, minus-one-less, toZ-ofZ f, signed-high 2147483648 (c .before .args .n) (c .if1 .left))
 
-pub signed-of-spec : {M : Type 1} → statement M
-signed-of-spec =
+pub signed32-of-spec : {M : Type 1} → statement M
+signed32-of-spec =
     tie.close (tie.spec (λ c. search needs) (λ c. search needs) (λ c. search needs) sub-result-2 returns returns-2)

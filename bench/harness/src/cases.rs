@@ -1,0 +1,165 @@
+//! What is measured.
+
+use crate::calls::{Call, Lent};
+use crate::maps::{self, Map};
+use crate::measure::{run, Effort, Row, Want};
+use crate::report::{grouped, print_group, print_row};
+
+/// Bytes of objects before each block of a full map: 2,000 such blocks fit the limit.
+const ROOM: usize = 2_200;
+/// Room behind a map for what an add lays there.
+const BEHIND: usize = 300_000;
+pub const GROWTH: [usize; 4] = [250, 500, 1_000, 2_000];
+
+/// The row whose count the page tells.
+pub const SMALL_WINDOW: &str = "small window, 2,000 blocks";
+
+const CHECK: &str = "Check";
+const SEARCH: &str = "Search";
+const EDITS: &str = "Edits";
+pub const GROWS: &str = "Growth of the check";
+const WORST: &str = "Worst maps and journals";
+
+pub struct Bench {
+    pub effort: Effort,
+    pub rows: Vec<Row>,
+}
+
+impl Bench {
+    fn row(&mut self, group: &'static str, name: &str, lent: Lent, call: Call, want: Want) {
+        let row = run(group, name, lent, call, want, &self.effort);
+        if self.rows.last().map(|last| last.group) != Some(group) {
+            print_group(group);
+        }
+        print_row(&row);
+        self.rows.push(row);
+    }
+
+    fn check(&mut self, group: &'static str, name: &str, map: &Map) {
+        self.row(group, name, lend(map, Vec::new()), Call::Check, Want::Done);
+    }
+
+    fn search(&mut self, group: &'static str, name: &str, map: &Map, half: i32) {
+        let window = [-half, -half, half, half];
+        let mut lent = lend(map, Vec::new());
+        lent.list = vec![0xEEEE_EEEE; map.slots()];
+        self.row(group, name, lent, Call::Search { window }, Want::Done);
+    }
+
+    pub fn all(&mut self) {
+        self.checks();
+        self.searches();
+        self.edits("20 blocks", maps::own_objects(7, 20));
+        self.edits("2,000 blocks", maps::full(7, 2_000, ROOM));
+        self.growth();
+        self.worst_maps();
+        self.worst_journals();
+    }
+
+    fn checks(&mut self) {
+        let empty = Map::new(7);
+        self.check(CHECK, "empty map", &empty);
+        self.check(CHECK, "20 full blocks, OCAD 7, own objects", &maps::own_objects(7, 20));
+        self.check(CHECK, "1,000 full blocks, OCAD 7, own objects", &maps::own_objects(7, 1_000));
+        self.check(CHECK, "2,000 full blocks, OCAD 7", &maps::full(7, 2_000, ROOM));
+        self.check(CHECK, "2,000 full blocks, OCAD 8", &maps::full(8, 2_000, ROOM));
+    }
+
+    fn searches(&mut self) {
+        let map = maps::own_objects(7, 20);
+        self.search(SEARCH, "small window, 20 blocks", &map, 1_000);
+        self.search(SEARCH, "all-covering window, 20 blocks", &map, i32::MAX);
+        let map = maps::full(8, 2_000, ROOM);
+        self.search(SEARCH, SMALL_WINDOW, &map, 1_000);
+        self.search(SEARCH, "all-covering window, 2,000 blocks", &map, i32::MAX);
+    }
+
+    /// Edits on a map with all slots live, under a journal of 4,096 records with rising numbers.
+    /// A done edit takes the last record, so that 4,095 are in use before it.
+    fn edits(&mut self, size: &str, map: Map) {
+        let rising = |i: usize| i as u32 + 1;
+        let slots = map.slots();
+        let (last, middle) = (slots - 1, slots / 2 + 5);
+        let almost = maps::journal(4_095, last, rising);
+        let full = maps::journal(4_096, last, rising);
+        let add = Call::Add { edit: 9_999, object: maps::object(101, &[(5, 5)], 1) };
+        let mut row = |name: &str, map: &Map, journal: &[u8], call, want| {
+            self.row(EDITS, &format!("{name}, {size}"), lend(map, journal.to_vec()), call, want);
+        };
+
+        row("add, new block", &map, &almost, add.clone(), Want::Done);
+        let mut with_free = map.clone();
+        with_free.free(last);
+        row("add, last slot free", &with_free, &almost, add, Want::Done);
+        let remove = Call::Remove { edit: 9_999, at: middle as u32 };
+        row("remove", &map, &almost, remove.clone(), Want::Done);
+        let mut with_erased = map.clone();
+        with_erased.erase(middle);
+        let reinstate = Call::Reinstate { edit: 9_999, at: middle as u32 };
+        row("reinstate", &with_erased, &almost, reinstate, Want::Done);
+
+        let [record_add, record_remove] = [4_095, 4_093];
+        assert!(maps::kind_of(record_add) == 1 && maps::kind_of(record_remove) == 2);
+        let stored = map.object_of(maps::slot_of(record_add, last));
+        let repeat = Call::Add { edit: rising(record_add), object: stored };
+        row("repeated add, journal full", &map, &full, repeat, Want::DoneBefore);
+        let at = maps::slot_of(record_remove, last) as u32;
+        let repeat = Call::Remove { edit: rising(record_remove), at };
+        row("repeated remove, journal full", &map, &full, repeat, Want::DoneBefore);
+        row("remove, journal full (15)", &map, &full, remove, Want::Refused(15));
+    }
+
+    fn growth(&mut self) {
+        for blocks in GROWTH {
+            self.check(GROWS, &format!("{} full blocks", grouped(blocks)), &maps::full(8, blocks, ROOM));
+        }
+    }
+
+    fn worst_maps(&mut self) {
+        let map = maps::shared(1);
+        self.check(WORST, "check: 2,728 blocks (the limit), one object of 1 pair", &map);
+        let map = maps::shared(32_768);
+        let name = format!("check: {} slots share one object of 32,768 pairs", grouped(map.slots()));
+        self.check(WORST, &name, &map);
+        let map = maps::scrambled(8, 2_000, ROOM);
+        self.check(WORST, "check: 2,000 blocks in random order, objects anywhere", &map);
+        self.search(WORST, "search: 2,000 blocks in random order, all-covering", &map, i32::MAX);
+        let map = maps::mixed(8, 2_000, ROOM);
+        self.check(WORST, "check: 2,000 blocks, slots live, erased, free at random", &map);
+        self.search(WORST, "search: slots live, erased, free at random, all-covering", &map, i32::MAX);
+        let map = maps::symbols(20, 14_000, 348);
+        self.check(WORST, "check: 14,000 full symbol blocks, records of 348 bytes", &map);
+        let map = maps::symbols(20, 14_000, 32_767);
+        self.check(WORST, "check: 14,000 full symbol blocks, records of 32,767 bytes", &map);
+    }
+
+    fn worst_journals(&mut self) {
+        let map = maps::own_objects(7, 20);
+        let last = map.slots() - 1;
+        let remove = Call::Remove { edit: 9_999, at: 5 };
+        let colliding = maps::journal(4_095, last, |i| 16_384 * (i as u32 + 1));
+        let lent = lend(&map, colliding);
+        self.row(WORST, "remove: numbers equal modulo 16,384, 20 blocks", lent, remove.clone(), Want::Done);
+        let lent = lend(&map, maps::journal(4_095, last, maps::mixed_numbers()));
+        self.row(WORST, "remove: numbers in no order, 20 blocks", lent, remove, Want::Done);
+
+        let pairs: Vec<(i32, i32)> = (0..32_768).map(|i| (i, -i)).collect();
+        let object = maps::object(101, &pairs, pairs.len());
+        let call = Call::Add { edit: 1, object: object.clone() };
+        let empty = Map::new(8);
+        let lent = lend(&empty, vec![0; 160]);
+        self.row(WORST, "add: object of 32,768 pairs to an empty map", lent, call.clone(), Want::Done);
+        let mut held = empty;
+        held.hold(&object);
+        let mut journal = vec![0; 160];
+        journal[0] = 1;
+        journal[4] = 1;
+        let lent = lend(&held, journal);
+        self.row(WORST, "repeated add: object of 32,768 pairs", lent, call, Want::DoneBefore);
+    }
+}
+
+fn lend(map: &Map, journal: Vec<u8>) -> Lent {
+    let (map, used) = map.lent(BEHIND);
+    Lent { map, used, journal, list: Vec::new() }
+}

@@ -1,0 +1,40 @@
+//! Times the proved library against the baseline and writes what it found.
+//!
+//!     harness FOLDER [--quick]
+//!
+//! Prints a row for each input and writes COST.md and growth.svg to the folder. It ends with 1 if
+//! the two answer differently; no time makes it fail.
+
+mod calls;
+mod cases;
+mod chart;
+mod maps;
+mod measure;
+mod report;
+
+use cases::Bench;
+use measure::Effort;
+use std::time::Duration;
+
+const FULL: Effort = Effort { least_pairs: 40, most_pairs: 4_000, budget: Duration::from_millis(1_500) };
+const QUICK: Effort = Effort { least_pairs: 11, most_pairs: 500, budget: Duration::from_millis(100) };
+
+fn main() -> std::io::Result<()> {
+    let words: Vec<String> = std::env::args().skip(1).collect();
+    let (folder, effort) = match words.as_slice() {
+        [folder] => (folder, FULL),
+        [folder, quick] if quick == "--quick" => (folder, QUICK),
+        _ => {
+            eprintln!("usage: harness FOLDER [--quick]");
+            std::process::exit(2);
+        }
+    };
+    let mut bench = Bench { effort, rows: Vec::new() };
+    report::print_head();
+    bench.all();
+    std::fs::create_dir_all(folder)?;
+    std::fs::write(format!("{folder}/COST.md"), report::page(&bench))?;
+    std::fs::write(format!("{folder}/growth.svg"), chart::growth(&bench.rows))?;
+    println!("\n{}\n\nwritten: {folder}/COST.md, {folder}/growth.svg", report::summary(&bench.rows));
+    Ok(())
+}

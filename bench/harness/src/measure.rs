@@ -1,0 +1,175 @@
+//! Compares the two sides on an input, then times them in turn on the same buffers.
+
+use crate::calls::{Answer, Call, Lent, Side, BASELINE, LIBRARY};
+use crate::maps::Random;
+use std::hint::black_box;
+use std::time::{Duration, Instant};
+
+/// What an input's answer has to be, so that no refusal is timed by mistake.
+#[derive(Clone, Copy)]
+pub enum Want {
+    Done,
+    DoneBefore,
+    Refused(u32),
+}
+
+/// Nanoseconds of one call.
+#[derive(Clone, Copy)]
+pub struct Times {
+    pub median: f64,
+    pub least: f64,
+}
+
+pub struct Row {
+    pub group: &'static str,
+    pub name: String,
+    pub answer: Answer,
+    pub library: Times,
+    pub baseline: Times,
+}
+
+impl Row {
+    pub fn ratio(&self) -> f64 {
+        self.library.median / self.baseline.median
+    }
+
+    pub fn least_ratio(&self) -> f64 {
+        self.library.least / self.baseline.least
+    }
+}
+
+/// How long an input is timed.
+pub struct Effort {
+    pub least_pairs: usize,
+    pub most_pairs: usize,
+    pub budget: Duration,
+}
+
+/// A sample of quick calls takes about this long, so that the clock's own steps don't show.
+const SAMPLE_NS: f64 = 20_000.0;
+
+/// Stops the program if the sides differ in an answer or a byte.
+pub fn run(group: &'static str, name: &str, lent: Lent, call: Call, want: Want, effort: &Effort) -> Row {
+    let (answer, after) = compare(name, &lent, &call, want);
+    let changes = Changes::between(&lent, &after);
+    let mut work = after;
+    changes.undo(&mut work);
+
+    // one sample: the nanoseconds of a call; what it changes is put back outside the timing
+    let mut sample = |side: &Side, batch: usize| -> f64 {
+        let start = processor_ns();
+        for _ in 0..batch {
+            black_box(side.make(black_box(&call), &mut work));
+        }
+        let time = processor_ns() - start;
+        changes.undo(&mut work);
+        time as f64 / batch as f64
+    };
+    let mut warm = || sample(&LIBRARY, 1).max(sample(&BASELINE, 1));
+    let once = (0..3).map(|_| warm()).fold(f64::MAX, f64::min).max(1.0);
+    let batch = if changes.none() { (SAMPLE_NS / once).ceil() as usize } else { 1 };
+
+    let (mut library, mut baseline) = (Vec::new(), Vec::new());
+    let start = Instant::now();
+    let mut order = Random(1);
+    while library.len() < effort.least_pairs
+        || (library.len() < effort.most_pairs && start.elapsed() < effort.budget)
+    {
+        // who is first changes at random, so as not to keep step with other programs
+        if order.below(2) == 0 {
+            library.push(sample(&LIBRARY, batch));
+            baseline.push(sample(&BASELINE, batch));
+        } else {
+            baseline.push(sample(&BASELINE, batch));
+            library.push(sample(&LIBRARY, batch));
+        }
+    }
+    // else a call was timed on a map that an earlier one had changed
+    assert!(work.map == lent.map && work.journal == lent.journal, "{name}: not put back");
+    let (library, baseline) = (times(library), times(baseline));
+    Row { group, name: name.to_string(), answer, library, baseline }
+}
+
+/// Both sides on copies of their own: the same number, outs and bytes. These come back.
+fn compare(name: &str, lent: &Lent, call: &Call, want: Want) -> (Answer, Lent) {
+    let (mut by_library, mut by_baseline) = (lent.clone(), lent.clone());
+    let library = LIBRARY.make(call, &mut by_library);
+    let baseline = BASELINE.make(call, &mut by_baseline);
+    if library != baseline {
+        eprintln!("{name}: the library answers {library:?}, the baseline {baseline:?}");
+        std::process::exit(1);
+    }
+    for (what, same) in [
+        ("map", by_library.map == by_baseline.map),
+        ("journal", by_library.journal == by_baseline.journal),
+        ("list", by_library.list == by_baseline.list),
+    ] {
+        if !same {
+            eprintln!("{name}: the two leave different bytes in the {what}");
+            std::process::exit(1);
+        }
+    }
+    assert!(fits(library, call, want), "{name}: unexpected answer {library:?}");
+    (library, by_library)
+}
+
+fn fits(answer: Answer, call: &Call, want: Want) -> bool {
+    let edits = !matches!(call, Call::Check | Call::Search { .. });
+    match want {
+        Want::Done => answer.number == 0 && (!edits || answer.outs[1] == 0),
+        Want::DoneBefore => answer.number == 0 && answer.outs[1] == 1,
+        Want::Refused(number) => answer.number == number,
+    }
+}
+
+fn times(mut samples: Vec<f64>) -> Times {
+    samples.sort_by(f64::total_cmp);
+    Times { median: samples[samples.len() / 2], least: samples[0] }
+}
+
+/// This thread's processor time, so that other programs on the machine count less.
+fn processor_ns() -> i64 {
+    #[repr(C)]
+    struct Timespec {
+        seconds: i64,
+        nanoseconds: i64,
+    }
+    extern "C" {
+        fn clock_gettime(clock: i32, time: *mut Timespec) -> i32;
+    }
+    const THREAD_CPUTIME: i32 = 3; // Linux
+    let mut now = Timespec { seconds: 0, nanoseconds: 0 };
+    let failed = unsafe { clock_gettime(THREAD_CPUTIME, &mut now) } != 0;
+    assert!(!failed, "no clock");
+    now.seconds * 1_000_000_000 + now.nanoseconds
+}
+
+/// The bytes of map and journal that a call changes, as they were, in pieces of a cache line.
+struct Changes {
+    map: Vec<(usize, Vec<u8>)>,
+    journal: Vec<(usize, Vec<u8>)>,
+}
+
+impl Changes {
+    fn between(before: &Lent, after: &Lent) -> Changes {
+        let pieces = |before: &[u8], after: &[u8]| {
+            let both = before.chunks(64).zip(after.chunks(64)).enumerate();
+            let changed = both.filter(|(_, (old, new))| old != new);
+            changed.map(|(i, (old, _))| (64 * i, old.to_vec())).collect()
+        };
+        Changes { map: pieces(&before.map, &after.map), journal: pieces(&before.journal, &after.journal) }
+    }
+
+    fn none(&self) -> bool {
+        self.map.is_empty() && self.journal.is_empty()
+    }
+
+    fn undo(&self, lent: &mut Lent) {
+        for (at, old) in &self.map {
+            lent.map[*at..at + old.len()].copy_from_slice(old);
+        }
+        for (at, old) in &self.journal {
+            lent.journal[*at..at + old.len()].copy_from_slice(old);
+        }
+    }
+}

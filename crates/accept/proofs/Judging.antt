@@ -1,0 +1,62 @@
+-- The laws of the tests: what a test in the code tells of the test in a definition, the table in the place of the chain, an object's header read in a lent
+-- part, and the bounds of an object's bytes. Assumes nothing.
+use Prim.Native.Nat.{ℕ, _+_, _*_, _≤_}
+use mathlib.Core.Bool.{Bool, true, false, not, cond}
+use mathlib.Core.Path.{_≡_, refl, sym, _∙_, fun-ext}
+use mathlib.Core.List.{List}
+use native.Mathlib.Omega.{arith}
+use lib.Dec.{eqb}
+use lib.ListN.{take, drop}
+use lib.Seq.{getD-take}
+use borrow.Author.Tests.{not-true, not-false, eqb-false}
+use Rattle.numbers.specs.Bytes.{u16At}
+use Rattle.numbers.proofs.Bytes.{leAt-part, leAt-drop}
+use Rattle.records.specs.Sizes.{indexBlockSize, objectHeaderSize}
+use Rattle.records.specs.Headers.{indexHead}
+use Rattle.records.specs.Slots.{lenGood, bytesIn}
+use Rattle.records.specs.Objects.{objectOf}
+use Rattle.records.proofs.Slots.{len-room}
+use Rattle.chain.specs.Tables.{Table, tableMeets}
+use Rattle.chain.proofs.Tables.{table-meets}
+use Rattle.accept.specs.Rules.{touches}
+
+-- a call answered r, which is b: what a branch on `!r` tells of b
+pub fails : {r b : Bool} → r ≡ b → not r ≡ true → b ≡ false
+fails {r} e t = sym e ∙ not-true r t
+
+pub passes : {r b : Bool} → r ≡ b → not r ≡ false → b ≡ true
+passes {r} e t = sym e ∙ not-false r t
+
+-- the table's test of a range is the chain's
+pub same-touch : {m : List ℕ} {n : ℕ} {t : List ℕ} → Table indexHead indexBlockSize m n t → tableMeets indexBlockSize t ≡ touches m n
+same-touch w = fun-ext (λ p. fun-ext (λ len. table-meets w p len))
+
+-- an object's header, read in a part that has it
+pub object-part : (m : List ℕ) (p : ℕ) {k : ℕ} → objectHeaderSize ≤ k → objectOf (take k (drop p m)) ≡ objectOf (drop p m)
+unfolding objectOf
+object-part m p {k} h =
+    let field : (j : ℕ) → j + 2 ≤ k → u16At (take k (drop p m)) j ≡ u16At (drop p m) j = λ j l. leAt-part 2 m p k j l ∙ sym (leAt-drop 2 m p j) in
+    λ i.
+    record {
+      sym = field 0 (omega arith) i;
+      kind = getD-take k (drop p m) 2 0 (omega arith) i;
+      items = field 4 (omega arith) i;
+      texts = field 6 (omega arith) i;
+    }
+
+-- an object whose Len is allowed has room for its header; and no object has more bytes than a header and Len pairs
+pub bytes-least : (v len : ℕ) → lenGood v len ≡ true → objectHeaderSize ≤ bytesIn v len
+unfolding bytesIn
+bytes-least v len e = go (eqb v 8) refl
+  where
+    go : (b : Bool) → eqb v 8 ≡ b → 32 ≤ cond b (32 + 8 * len) len
+    go true f = omega arith
+    go false f = omega (arith, len-room v len e (eqb-false v 8 f))
+
+pub bytes-most : (v len : ℕ) → bytesIn v len ≤ 32 + 8 * len
+unfolding bytesIn
+bytes-most v len = go (eqb v 8)
+  where
+    go : (b : Bool) → cond b (32 + 8 * len) len ≤ 32 + 8 * len
+    go true = omega arith
+    go false = omega arith

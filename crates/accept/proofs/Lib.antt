@@ -1,0 +1,17 @@
+-- The laws of the definitions in specs/: no one function's own.
+--     Judging      what a test in the code tells of the test in a definition
+--     Rules        the rule of each chain, as the walk has it
+--     Looking      the look at one cell of a chain after the other
+--     Verdicts     the parts of the answer
+--     Telling      what a good slot and a good symbol record tell
+--     Accepting    what an accepted map tells, and what shows one
+--     Frame        what a change of a map leaves
+--     Writes       the writes of the edits, as such changes
+pub mod Judging
+pub mod Rules
+pub mod Looking
+pub mod Telling
+pub mod Verdicts
+pub mod Accepting
+pub mod Frame
+pub mod Writes

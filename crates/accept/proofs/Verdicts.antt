@@ -1,0 +1,79 @@
+-- The laws of the answers: what a good length tells, what the symbol blocks are judged to be, and what an accepted map tells behind its header. Assumes
+-- nothing.
+use Prim.Native.Nat.{ℕ, _≤_}
+use mathlib.Core.Bool.{Bool, true, false, cond, _&&_}
+use mathlib.Core.Path.{_≡_, refl, sym, ap}
+use mathlib.Core.List.{List}
+use native.Mathlib.Omega.{arith}
+use lib.Dec.{leb}
+use lib.ListN.{length}
+use borrow.Author.Tests.{leb-true}
+use Rattle.records.specs.Sizes.{headerSize, mapLimit}
+use Rattle.records.specs.Headers.{headerOf}
+use Rattle.chain.specs.declared.Walk.{Walk}
+use Rattle.chain.specs.declared.Walk.the-variants.{Blocks, Fault}
+use Rattle.chain.specs.Chains.{Rule, walked, taken}
+use Rattle.chain.proofs.Chains.{walked-taken, fault-tells}
+use Rattle.accept.specs.declared.Verdict.{Verdict}
+use Rattle.accept.specs.declared.Verdict.the-variants.{Accepted, Refused}
+use Rattle.accept.specs.declared.Judged.{Judged}
+use Rattle.accept.specs.declared.Judged.the-variants.{Good, Bad}
+use Rattle.accept.specs.Rules.{symbolRule}
+use Rattle.accept.specs.Judging.{lengthGood}
+use Rattle.accept.proofs.Telling.{and-true}
+use Rattle.accept.specs.Verdicts.{unless, firstOf, linkJudged, fieldsJudged, headerJudged, entriesJudged, symbolsJudged, slotsJudged, afterIndex}
+
+-- ---- 1: the length
+
+pub length-tells : (m : List ℕ) (used : ℕ) → lengthGood m used ≡ true → (headerSize ≤ used) × (used ≤ mapLimit) × (used ≤ length m)
+unfolding lengthGood
+length-tells m used e =
+    let f = and-true (leb headerSize used) (leb used mapLimit && leb used (length m)) e in
+    let g = and-true (leb used mapLimit) (leb used (length m)) (f .1) in
+    (leb-true headerSize used (f .0), leb-true used mapLimit (g .0), leb-true used (length m) (g .1))
+
+pub header-tells : (m : List ℕ) (used : ℕ) → headerJudged m used ≡ Good → (headerSize ≤ used) × (used ≤ mapLimit) × (used ≤ length m)
+unfolding headerJudged
+header-tells m used e = go (lengthGood m used) refl e
+  where
+    go : (b : Bool) → lengthGood m used ≡ b → cond b (fieldsJudged (headerOf m) used) (Bad 1 0) ≡ Good → (headerSize ≤ used) × (used ≤ mapLimit) × (used ≤ length m)
+    go true f g = length-tells m used f
+    go false f g = let z : _≡_ {A = ℕ} 0 1 = cc in let no-way : ⊥ = omega arith in absurd no-way
+
+-- ---- 6: the symbol blocks
+
+-- how many blocks an answer of the walk tells of: those that were taken
+abbrev pub blocksIn : Walk → ℕ
+blocksIn (Blocks n) = n
+blocksIn (Fault p n) = n
+
+pub taken-of : (r : Rule) (m : List ℕ) (used : ℕ) (w : Walk) → walked r m used ≡ w → blocksIn w ≡ taken r m used
+taken-of r m used (Blocks n) e = sym (walked-taken r m used e)
+taken-of r m used (Fault p n) e = sym (fault-tells r m used e .0)
+
+-- the walk answered w, and the entries of its blocks were judged to be j
+pub symbols-is : (m : List ℕ) (used n : ℕ) {w : Walk} {j : Judged} → walked (symbolRule m n) m used ≡ w → j ≡ entriesJudged m used n (blocksIn w) → symbolsJudged m used n ≡ firstOf j (linkJudged w)
+unfolding symbolsJudged
+symbols-is m used n {w} e f = rw (e, ← taken-of (symbolRule m n) m used w e, ← f)
+
+pub first-good : (j : Judged) → firstOf j Good ≡ j
+first-good Good = refl
+first-good (Bad n p) = refl
+
+-- ---- accepted, and with how many index blocks
+
+pub refused : {number p n : ℕ} → Refused number p ≡ Accepted n → ⊥
+refused e = let z : _≡_ {A = ℕ} 0 1 = cc in omega arith
+
+pub unless-tells : (j : Judged) {v : Verdict} {n : ℕ} → unless j v ≡ Accepted n → (j ≡ Good) × (v ≡ Accepted n)
+unless-tells Good e = (refl, e)
+unless-tells (Bad k p) e = absurd (refused e)
+
+pub after-tells : (m : List ℕ) (used : ℕ) (w : Walk) {n : ℕ} → afterIndex m used w ≡ Accepted n → (w ≡ Blocks n) × (symbolsJudged m used n ≡ Good) × (slotsJudged m used n ≡ Good)
+unfolding afterIndex
+after-tells m used (Blocks k) {n} e =
+    let f = unless-tells (symbolsJudged m used k) e in
+    let g = unless-tells (slotsJudged m used k) (f .1) in
+    let q : k ≡ n = cc in
+    (ap Blocks q, rw q at (f .0), rw q at (g .0))
+after-tells m used (Fault p k) e = absurd (refused e)

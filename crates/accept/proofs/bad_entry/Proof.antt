@@ -1,0 +1,17 @@
+-- `accept::bad_entry` meets its contract: an entry of 0 is unused, and of any other the record is tested. Assumes nothing.
+use borrow.Author.Tests.{eq-eqb, ne-eqb}
+use Rattle.accept.specs.Judging.{badEntry}
+use borrow.Author.Needs.{needs}
+use Rattle.accept.proofs.bad_entry.Statement.{statement}
+use Rattle.accept.proofs.bad_entry.Tie as tie
+
+returns : tie.Need-returns
+unfolding badEntry
+returns c = rw (← c .before .u32-at .ensures, eq-eqb _ _ (c .if1 .taken))
+
+returns-2 : tie.Need-returns-2
+unfolding badEntry
+returns-2 c = rw (← c .before .before .u32-at .ensures, ne-eqb _ _ (c .before .if1 .left), c .symbol-good .ensures)
+
+pub bad-entry-spec : {M : Type 1} → statement M
+bad-entry-spec = tie.close (tie.spec (λ c κs. search needs) (λ c. search needs) returns (λ c κs. search needs) returns-2)

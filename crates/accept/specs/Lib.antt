@@ -1,0 +1,7 @@
+-- The definitions that the contracts of `accept` cite.
+--     Rules       the two kinds of chain in a map, and where slots and entries stand
+--     Judging     whether a slot, a symbol entry or a part of the map is as document 01 wants it
+--     Verdicts    what the check answers, with document 01's numbers and places, in document 01's order
+pub mod Rules
+pub mod Judging
+pub mod Verdicts

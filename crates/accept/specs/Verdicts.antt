@@ -1,0 +1,79 @@
+-- What the check answers for the first `used` bytes of a buffer m: document 01's numbers 1 to 7 in its order, each with its place; or accepted, with the
+-- number of index blocks.
+--     numberOf v, placeOf v     document 01's number and place of an answer
+--     unless j v                the refusal of the fault that j has, or else v
+--     firstOf j k               the fault that j has, or else that of k
+--     cellsJudged               the first cell at fault, by number: the place where it stands
+--     headerJudged m used       1: the length. 2: the mark. 3: the version pair. 4: setup (16), then info (24)
+--     linkJudged                6: the link of a symbol block, at the place where the link is stored
+--     symbolsJudged m used n    6: of the symbol blocks taken, the first entry at fault; then the link at which the walk stopped. That is the order a block,
+--                               its entries, then its link
+--     slotsJudged m used n      7: the live slot at fault of lowest number
+--     afterIndex, verdict       5: the link of an index block, at the place where the link is stored; then 6, then 7
+use Prim.Native.Nat.{ℕ, _*_}
+use mathlib.Core.Bool.{Bool, cond}
+use mathlib.Core.List.{List}
+use lib.Dec.{ltb, eqb}
+use Rattle.numbers.specs.Below.{first}
+use Rattle.records.specs.declared.Header.{Header}
+use Rattle.records.specs.Headers.{headerOf, pairGood, setupAt, infoAt}
+use Rattle.chain.specs.declared.Walk.{Walk}
+use Rattle.chain.specs.declared.Walk.the-variants.{Blocks, Fault}
+use Rattle.chain.specs.Chains.{walked, taken}
+use Rattle.accept.specs.declared.Verdict.{Verdict}
+use Rattle.accept.specs.declared.Verdict.the-variants.{Accepted, Refused}
+use Rattle.accept.specs.declared.Judged.{Judged}
+use Rattle.accept.specs.declared.Judged.the-variants.{Good, Bad}
+use Rattle.accept.specs.Rules.{indexRule, symbolRule, touches, slotAt, entryAt}
+use Rattle.accept.specs.Judging.{versionOf, lengthGood, partGood, badSlot, badEntry}
+
+abbrev pub numberOf : Verdict → ℕ
+numberOf (Accepted n) = 0
+numberOf (Refused n p) = n
+
+abbrev pub placeOf : Verdict → ℕ
+placeOf (Accepted n) = 0
+placeOf (Refused n p) = p
+
+abbrev pub unless : Judged → Verdict → Verdict
+unless Good v = v
+unless (Bad n p) v = Refused n p
+
+unfoldable pub cellsJudged : ℕ → (ℕ → Bool) → (ℕ → ℕ) → ℕ → Judged
+cellsJudged number bad place n = cond (ltb (first bad n) n) (Bad number (place (first bad n))) Good
+
+unfoldable pub fieldsJudged : Header → ℕ → Judged
+fieldsJudged h used =
+    cond (eqb (h .mark) 3245)
+    (cond (pairGood (h .version) (h .section))
+    (cond (partGood used (h .setup)) (cond (partGood used (h .info)) Good (Bad 4 infoAt)) (Bad 4 setupAt))
+    (Bad 3 0))
+    (Bad 2 0)
+
+unfoldable pub headerJudged : List ℕ → ℕ → Judged
+headerJudged m used = cond (lengthGood m used) (fieldsJudged (headerOf m) used) (Bad 1 0)
+
+abbrev pub linkJudged : Walk → Judged
+linkJudged (Blocks n) = Good
+linkJudged (Fault p n) = Bad 6 p
+
+abbrev pub firstOf : Judged → Judged → Judged
+firstOf Good j = j
+firstOf (Bad n p) j = Bad n p
+
+unfoldable pub entriesJudged : List ℕ → ℕ → ℕ → ℕ → Judged
+entriesJudged m used n k = cellsJudged 6 (λ e. badEntry (touches m n) m used (entryAt m e)) (entryAt m) (256 * k)
+
+unfoldable pub symbolsJudged : List ℕ → ℕ → ℕ → Judged
+symbolsJudged m used n =
+    firstOf (entriesJudged m used n (taken (symbolRule m n) m used)) (linkJudged (walked (symbolRule m n) m used))
+
+unfoldable pub slotsJudged : List ℕ → ℕ → ℕ → Judged
+slotsJudged m used n = cellsJudged 7 (λ s. badSlot (touches m n) m used (versionOf m) (slotAt m s)) (slotAt m) (256 * n)
+
+unfoldable pub afterIndex : List ℕ → ℕ → Walk → Verdict
+afterIndex m used (Blocks n) = unless (symbolsJudged m used n) (unless (slotsJudged m used n) (Accepted n))
+afterIndex m used (Fault p n) = Refused 5 p
+
+unfoldable pub verdict : List ℕ → ℕ → Verdict
+verdict m used = unless (headerJudged m used) (afterIndex m used (walked (indexRule m) m used))

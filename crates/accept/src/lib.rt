@@ -1,0 +1,392 @@
+// The check of a map: document 01's refusals 1 to 7, or accepted.
+use chain::Kind;
+use chain::Walk;
+use chain::meets_block;
+use chain::next_cell;
+use chain::walk_chain;
+use numbers::at_most;
+use numbers::u16_at;
+use numbers::u32_at;
+use records::Header;
+use records::IndexBlock;
+use records::ObjectHeader;
+use records::Part;
+use records::Slot;
+use records::State;
+use records::SymbolBlock;
+use records::SymbolRecord;
+use records::bytes_in;
+use records::len_good;
+use records::pair_good;
+use records::pairs_of;
+use records::read_slot;
+use records::size_good;
+use records::type_good;
+ghost use mathlib.Core.Path.{_≡_};
+ghost use mathlib.Core.Bool.{true};
+ghost use Prim.Native.Nat.{ℕ, _+_, _*_, _≤_, _<_};
+ghost use lib.ListN.{length, drop};
+ghost use Rattle.records.specs.Sizes.{headerSize, indexBlockSize, slotSize, entrySize, mapLimit};
+ghost use Rattle.records.specs.Headers.{headerOf, indexHead};
+ghost use Rattle.records.specs.Slots.{lenGood};
+ghost use Rattle.chain.specs.Chains.{walked, taken};
+ghost use Rattle.chain.specs.Tables.{Empty, Placed, Table, tableMeets};
+ghost use Rattle.chain.specs.declared.Walk.the-variants.{Blocks};
+ghost use Rattle.accept.specs.declared.Verdict.the-variants.{Accepted};
+ghost use Rattle.accept.specs.Rules.{indexRule, symbolRule, indexKind, symbolKind};
+ghost use Rattle.accept.specs.Judging.{versionOf, lengthGood, partGood, headerFits, objectGood, slotGood, badSlot, symbolGood, badEntry};
+ghost use Rattle.accept.specs.Verdicts.{numberOf, placeOf, fieldsJudged, headerJudged, entriesJudged, symbolsJudged, slotsJudged, afterIndex, verdict};
+
+// What the check answers. Refusals carry document 01's number and place.
+pub enum Verdict {
+    Accepted { blocks: usize },
+    Refused { number: u32, place: u32 },
+}
+
+// What was judged: good, or at fault with document 01's number and place.
+pub enum Judged {
+    Good,
+    Bad { number: u32, place: u32 },
+}
+
+// Document 01's number of an answer.
+pub fn number(v: Verdict) -> u32
+    ensures { λ r. ⌜ r ≡ numberOf v ⌝ }
+{
+    match v {
+        Verdict::Accepted { blocks: _ } => 0,
+        Verdict::Refused { number, place: _ } => number,
+    }
+}
+
+// Document 01's place of an answer.
+pub fn place(v: Verdict) -> u32
+    ensures { λ r. ⌜ r ≡ placeOf v ⌝ }
+{
+    match v {
+        Verdict::Accepted { blocks: _ } => 0,
+        Verdict::Refused { number: _, place } => place,
+    }
+}
+
+// Setup or info: absent, or behind the header and inside the map.
+fn part_good(used: usize, p: Part) -> bool
+    requires { ⌜ used ≤ mapLimit ⌝ }
+    ensures { λ r. ⌜ r ≡ partGood used p ⌝ }
+{
+    if p.size == 0 {
+        return true;
+    }
+    if (p.at as usize) < Header::SIZE {
+        return false;
+    }
+    p.at as usize + p.size as usize <= used
+}
+
+// 2: the mark. 3: the version pair. 4: setup, then info.
+fn judge_fields(h: Header, used: usize) -> Judged
+    requires { ⌜ used ≤ mapLimit ⌝ }
+    ensures { λ r. ⌜ r ≡ fieldsJudged h used ⌝ }
+{
+    if h.mark != Header::MARK {
+        return Judged::Bad {
+            number: 2,
+            place: 0,
+        };
+    }
+    if !pair_good(h.version, h.section) {
+        return Judged::Bad {
+            number: 3,
+            place: 0,
+        };
+    }
+    let setup = h.setup;
+    if !part_good(used, setup) {
+        return Judged::Bad {
+            number: 4,
+            place: 16,
+        };
+    }
+    let info = h.info;
+    if !part_good(used, info) {
+        return Judged::Bad {
+            number: 4,
+            place: 24,
+        };
+    }
+    Judged::Good
+}
+
+// 1: the length; then the header's fields.
+fn judge_header(m: &[u8], used: usize) -> Judged
+    ensures { λ r. ⌜ r ≡ headerJudged (now (m .entry)) used ⌝ }
+{
+    if used < Header::SIZE {
+        return Judged::Bad {
+            number: 1,
+            place: 0,
+        };
+    }
+    if 16777216 < used {
+        return Judged::Bad {
+            number: 1,
+            place: 0,
+        };
+    }
+    if m.len() < used {
+        return Judged::Bad {
+            number: 1,
+            place: 0,
+        };
+    }
+    judge_fields(Header::of(m), used)
+}
+
+// Whether an object's header fits its slot.
+fn header_fits(h: ObjectHeader, version: u16, t: Slot) -> bool
+    requires { ⌜ lenGood version (t .len) ≡ true ⌝ }
+    ensures { λ r. ⌜ r ≡ headerFits h version t ⌝ }
+{
+    if h.sym != t.sym {
+        return false;
+    }
+    if !type_good(h.kind) {
+        return false;
+    }
+    h.items as usize + h.texts as usize == pairs_of(version, t.len)
+}
+
+// Whether a slot's object is good. The part of the map that starts at its position is handed on.
+fn object_good(m: &[u8], used: usize, version: u16, index: &[u32], t: Slot) -> bool
+    requires { ⌜ (used ≤ mapLimit) × (used ≤ length (now m)) × (used ≤ length (now index) * indexBlockSize) × Placed indexBlockSize (now index) × (lenGood version (t .len) ≡ true) ⌝ }
+    ensures { λ r. ⌜ r ≡ objectGood (tableMeets indexBlockSize (now (index .entry))) (now (m .entry)) used version t ⌝ }
+{
+    let at = t.position as usize;
+    let bytes = bytes_in(version, t.len);
+    if at < Header::SIZE {
+        return false;
+    }
+    if used < at + bytes {
+        return false;
+    }
+    if meets_block(index, IndexBlock::SIZE, at, bytes) {
+        return false;
+    }
+    header_fits(ObjectHeader::of(&m[at..]), version, t)
+}
+
+// Whether a slot would be good as a live one.
+pub fn slot_good(m: &[u8], used: usize, version: u16, index: &[u32], t: Slot) -> bool
+    requires { ⌜ (used ≤ mapLimit) × (used ≤ length (now m)) × (used ≤ length (now index) * indexBlockSize) × Placed indexBlockSize (now index) ⌝ }
+    ensures { λ r. ⌜ r ≡ slotGood (tableMeets indexBlockSize (now (index .entry))) (now (m .entry)) used version t ⌝ }
+{
+    if !at_most(t.left, t.right) {
+        return false;
+    }
+    if !at_most(t.bottom, t.top) {
+        return false;
+    }
+    if !len_good(version, t.len) {
+        return false;
+    }
+    object_good(m, used, version, index, t)
+}
+
+// Whether the slot at a place is live and not good.
+fn bad_slot(m: &[u8], used: usize, version: u16, index: &[u32], at: usize) -> bool
+    requires { ⌜ (at + slotSize ≤ length (now m)) × (used ≤ mapLimit) × (used ≤ length (now m)) × (used ≤ length (now index) * indexBlockSize) × Placed indexBlockSize (now index) ⌝ }
+    ensures { λ r. ⌜ r ≡ badSlot (tableMeets indexBlockSize (now (index .entry))) (now (m .entry)) used version at ⌝ }
+{
+    let found = read_slot(m, at);
+    let state = found.state;
+    match state {
+        State::Free => false,
+        State::Erased => false,
+        State::Live => {
+            let t = found.slot;
+            !slot_good(m, used, version, index, t)
+        }
+    }
+}
+
+// 7: the live slot at fault of lowest number.
+fn judge_slots(m: &[u8], used: usize, index: &[u32], n: usize) -> Judged
+    requires { ⌜ (headerSize ≤ used) × (used ≤ mapLimit) × (used ≤ length (now m)) × (used ≤ length (now index) * indexBlockSize) × (walked (indexRule (now m)) (now m) used ≡ Blocks n) × Table indexHead indexBlockSize (now m) n (now index) ⌝ }
+    ensures { λ r. ⌜ r ≡ slotsJudged (now (m .entry)) used n ⌝ }
+{
+    let version = u16_at(m, 4);
+    let mut at = u32_at(m, Header::INDEX) as usize + 4;
+    let mut s = 0;
+    while s < 256 * n {
+        if bad_slot(m, used, version, index, at) {
+            return Judged::Bad {
+                number: 7,
+                place: at as u32,
+            };
+        }
+        at = next_cell(m, at, s, Slot::SIZE);
+        s += 1;
+    }
+    Judged::Good
+}
+
+// Whether a symbol record is good.
+fn symbol_good(m: &[u8], used: usize, index: &[u32], at: usize) -> bool
+    requires { ⌜ (at < 4294967296) × (used ≤ mapLimit) × (used ≤ length (now m)) × (used ≤ length (now index) * indexBlockSize) × Placed indexBlockSize (now index) ⌝ }
+    ensures { λ r. ⌜ r ≡ symbolGood (tableMeets indexBlockSize (now (index .entry))) (now (m .entry)) used at ⌝ }
+{
+    if at < Header::SIZE {
+        return false;
+    }
+    if used < at + 2 {
+        return false;
+    }
+    let size = u16_at(m, at);
+    if !size_good(size) {
+        return false;
+    }
+    if used < at + size as usize {
+        return false;
+    }
+    !meets_block(index, IndexBlock::SIZE, at, size as usize)
+}
+
+// Whether the symbol entry at a place is used and its record is not good.
+fn bad_entry(m: &[u8], used: usize, index: &[u32], at: usize) -> bool
+    requires { ⌜ (at + entrySize ≤ length (now m)) × (used ≤ mapLimit) × (used ≤ length (now m)) × (used ≤ length (now index) * indexBlockSize) × Placed indexBlockSize (now index) ⌝ }
+    ensures { λ r. ⌜ r ≡ badEntry (tableMeets indexBlockSize (now (index .entry))) (now (m .entry)) used at ⌝ }
+{
+    let p = u32_at(m, at) as usize;
+    if p == 0 {
+        return false;
+    }
+    !symbol_good(m, used, index, p)
+}
+
+// 6, of the first k symbol blocks: the first entry at fault.
+fn judge_entries(m: &[u8], used: usize, index: &[u32], n: usize, k: usize) -> Judged
+    requires { ⌜ (headerSize ≤ used) × (used ≤ mapLimit) × (used ≤ length (now m)) × (used ≤ length (now index) * indexBlockSize) × Table indexHead indexBlockSize (now m) n (now index) × (k ≡ taken (symbolRule (now m) n) (now m) used) ⌝ }
+    ensures { λ r. ⌜ r ≡ entriesJudged (now (m .entry)) used n k ⌝ }
+{
+    let mut at = u32_at(m, Header::SYMBOLS) as usize + 4;
+    let mut e = 0;
+    while e < 256 * k {
+        if bad_entry(m, used, index, at) {
+            return Judged::Bad {
+                number: 6,
+                place: at as u32,
+            };
+        }
+        at = next_cell(m, at, e, SymbolBlock::ENTRY);
+        e += 1;
+    }
+    Judged::Good
+}
+
+// The chain of symbol blocks, as a kind: its blocks keep off the index blocks.
+fn symbol_kind() -> Kind
+    ensures { λ r. ⌜ r ≡ symbolKind ⌝ }
+{
+    Kind {
+        head: Header::SYMBOLS,
+        size: SymbolBlock::SIZE,
+        first: 0,
+        first_size: 0,
+        second: 0,
+        second_size: 0,
+        other_size: IndexBlock::SIZE,
+    }
+}
+
+// The chain of index blocks, as a kind: its blocks keep off setup and info.
+fn index_kind(h: Header) -> Kind
+    ensures { λ r. ⌜ r ≡ indexKind h ⌝ }
+{
+    let setup = h.setup;
+    let info = h.info;
+    Kind {
+        head: Header::INDEX,
+        size: IndexBlock::SIZE,
+        first: setup.at as usize,
+        first_size: setup.size as usize,
+        second: info.at as usize,
+        second_size: info.size as usize,
+        other_size: 65536,
+    }
+}
+
+// 6: the symbol blocks and their entries.
+fn judge_symbols(m: &[u8], used: usize, index: &[u32], n: usize) -> Judged
+    requires { ⌜ (headerSize ≤ used) × (used ≤ mapLimit) × (used ≤ length (now m)) × (used ≤ length (now index) * indexBlockSize) × Table indexHead indexBlockSize (now m) n (now index) ⌝ }
+    ensures { λ r. ⌜ r ≡ symbolsJudged (now (m .entry)) used n ⌝ }
+{
+    let mut t = [0u32; 16321];
+    let w = walk_chain(m, used, symbol_kind(), index, &mut t);
+    match w {
+        Walk::Blocks(k) => judge_entries(m, used, index, n, k),
+        Walk::Fault { place, taken } => {
+            let j = judge_entries(m, used, index, n, taken);
+            match j {
+                Judged::Good => Judged::Bad {
+                    number: 6,
+                    place: place as u32,
+                },
+                Judged::Bad { number, place } => Judged::Bad { number, place },
+            }
+        }
+    }
+}
+
+// 6, then 7, of a map whose index blocks are good.
+fn judge_objects(m: &[u8], used: usize, index: &[u32], n: usize) -> Verdict
+    requires { ⌜ (headerSize ≤ used) × (used ≤ mapLimit) × (used ≤ length (now m)) × (used ≤ length (now index) * indexBlockSize) × (walked (indexRule (now m)) (now m) used ≡ Blocks n) × Table indexHead indexBlockSize (now m) n (now index) ⌝ }
+    ensures { λ r. ⌜ r ≡ afterIndex (now (m .entry)) used (Blocks n) ⌝ }
+{
+    let symbols = judge_symbols(m, used, index, n);
+    match symbols {
+        Judged::Bad { number, place } => Verdict::Refused { number, place },
+        Judged::Good => {
+            let slots = judge_slots(m, used, index, n);
+            match slots {
+                Judged::Bad { number, place } => Verdict::Refused { number, place },
+                Judged::Good => Verdict::Accepted { blocks: n },
+            }
+        }
+    }
+}
+
+// 5: the index blocks; then the rest. The table has the index blocks where the map is accepted.
+fn judge_index(m: &[u8], used: usize, index: &mut [u32]) -> Verdict
+    requires { ⌜ (headerSize ≤ used) × (used ≤ mapLimit) × (used ≤ length (now m)) × (used ≤ length (now index) * indexBlockSize) × Empty (now index) ⌝ }
+    ensures { λ r. ⌜ (r ≡ afterIndex (now (m .entry)) used (walked (indexRule (now (m .entry))) (now (m .entry)) used)) × ((n : ℕ) → r ≡ Accepted n → Table indexHead indexBlockSize (now (m .entry)) n (now (index .exit))) ⌝ }
+{
+    let none = [0u32; 257];
+    let w = walk_chain(m, used, index_kind(Header::of(m)), &none, index);
+    match w {
+        Walk::Blocks(n) => judge_objects(m, used, index, n),
+        Walk::Fault { place, taken: _ } => Verdict::Refused {
+            number: 5,
+            place: place as u32,
+        },
+    }
+}
+
+// The check, with a lent table, empty before, that has the index blocks afterwards where the map is accepted.
+pub fn examine(m: &[u8], used: usize, index: &mut [u32]) -> Verdict
+    requires { ⌜ (mapLimit ≤ length (now index) * indexBlockSize) × Empty (now index) ⌝ }
+    ensures { λ r. ⌜ (r ≡ verdict (now (m .entry)) used) × ((n : ℕ) → r ≡ Accepted n → Table indexHead indexBlockSize (now (m .entry)) n (now (index .exit))) ⌝ }
+{
+    let j = judge_header(m, used);
+    match j {
+        Judged::Bad { number, place } => Verdict::Refused { number, place },
+        Judged::Good => judge_index(m, used, index),
+    }
+}
+
+// The check of the first `used` bytes of a buffer. Any slice, any `used`.
+pub fn check(m: &[u8], used: usize) -> Verdict
+    ensures { λ r. ⌜ r ≡ verdict (now (m .entry)) used ⌝ }
+{
+    let mut index = [0u32; 2729];
+    examine(m, used, &mut index)
+}

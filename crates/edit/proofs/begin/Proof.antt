@@ -1,0 +1,98 @@
+-- `edit::begin` meets its contract: the check's refusal; or, of an accepted map, whose blocks are few enough for the lent order, what the look into the journal
+-- answers. Assumes nothing.
+use Prim.Native.Nat.{ℕ}
+use mathlib.Core.Path.{_≡_, sym, _∙_}
+use native.Mathlib.Omega.{arith}
+use denote.Ref.{now}
+use Rattle.accept.specs.declared.Verdict.the-variants.{Accepted}
+use Rattle.accept.specs.Verdicts.{verdict}
+use Rattle.accept.proofs.Verdicts.{refused}
+use Rattle.accept.proofs.Accepting.{Holds, accepted-tells}
+use Rattle.edit.specs.Edits.{Known}
+use Rattle.edit.proofs.Changing.{order-ready, reach, known-by, start-refused, start-look}
+use borrow.Author.Needs.{needs}
+use Rattle.edit.proofs.begin.Statement.{statement}
+use Rattle.edit.proofs.begin.Tie as tie
+
+-- the map is accepted, with so many blocks
+accepted : (c : tie.After-v2) → let a = c .before .before .before .before .before .before .before .before .before .before .args in verdict (now (a .m)) (a .used) ≡ Accepted (c .v2 .given .0 .0)
+accepted c = sym (c .before .before .before .before .examine .ensures .0) ∙ c .v2 .given .1
+
+holds : (c : tie.After-v2) → let a = c .before .before .before .before .before .before .before .before .before .before .args in Holds (now (a .m)) (a .used) (c .v2 .given .0 .0)
+holds c =
+    let a = c .before .before .before .before .before .before .before .before .before .before .args in
+    accepted-tells (now (a .m)) (a .used) (c .v2 .given .0 .0) (accepted c)
+
+order-blocks-requires : tie.Need-order-blocks-requires
+order-blocks-requires c κs =
+    let v = c .before .before in
+    let s = v .before .before .before .before .before .before .before .before .before .before in
+    order-ready (holds v) (now (s .args .order)) (s .pre .2)
+
+look-up-requires : tie.Need-look-up-requires
+look-up-requires c κs =
+    let o = c .before .before .before in
+    let v = o .before .before .before in
+    let s = v .before .before .before .before .before .before .before .before .before .before in
+    reach (holds v) (o .order-blocks .last .1 .1 .1 .0) (omega (arith, s .pre .2, o .order-blocks .kept .1 .1 .1 .0)) (o .order-blocks .ensures)
+
+-- the tables have the blocks
+known : (c : tie.After-look-up) → let o = c .before .before .before .before in let x = o .before .before .before .before .before .before .before in let a = x .before .before .before .before .before .before .args in (n : ℕ) → verdict (now (a .m)) (a .used) ≡ Accepted n → Known (now (a .m)) n (x .examine .last .1 .1 .0) (o .order-blocks .last .1 .1 .1 .0)
+known c =
+    let o = c .before .before .before .before in
+    let v = o .before .before .before in
+    let x = v .before .before .before .before in
+    known-by (accepted v) (λ n q. x .examine .ensures .1 n (x .examine .ensures .0 ∙ q)) (o .order-blocks .ensures)
+
+returns : tie.Need-returns
+returns c =
+    let v = c .before in
+    let x = v .before .before .before .before in
+    let a = x .before .before .before .before .before .before .args in
+    let q = sym (x .examine .ensures .0) ∙ v .v .given .1 in
+    (sym (start-refused (now (a .m)) (a .used) (now (a .j)) (a .e) q), λ n e. absurd (refused (sym q ∙ e)))
+
+returns-2 : tie.Need-returns-2
+returns-2 c =
+    let k = c .before .before in
+    let v = k .before .before .before .before .before .before .before in
+    let a = v .before .before .before .before .before .before .before .before .before .before .args in
+    (sym (start-look (now (a .m)) (a .used) (now (a .j)) (a .e) (accepted v) (sym (k .look-up .ensures) ∙ c .enum-told .given .1)), known k)
+
+returns-3 : tie.Need-returns-3
+returns-3 c =
+    let k = c .before .before .before in
+    let v = k .before .before .before .before .before .before .before in
+    let a = v .before .before .before .before .before .before .before .before .before .before .args in
+    (sym (start-look (now (a .m)) (a .used) (now (a .j)) (a .e) (accepted v) (sym (k .look-up .ensures) ∙ c .before .look .given .1)), known k)
+
+returns-4 : tie.Need-returns-4
+returns-4 c =
+    let k = c .before .before .before in
+    let v = k .before .before .before .before .before .before .before in
+    let a = v .before .before .before .before .before .before .before .before .before .before .args in
+    (sym (start-look (now (a .m)) (a .used) (now (a .j)) (a .e) (accepted v) (sym (k .look-up .ensures) ∙ c .before .look2 .given .1)), known k)
+
+pub begin-spec : {M : Type 1} → statement M
+begin-spec =
+    tie.close
+    (tie.spec
+    (λ c κs. search needs)
+    (λ c. search needs)
+    (λ c. search needs)
+    order-blocks-requires
+    look-up-requires
+    (λ c. search needs)
+    (λ c. search needs)
+    (λ c. search needs)
+    (λ c. search needs)
+    returns
+    (λ c. search needs)
+    (λ c. search needs)
+    returns-2
+    (λ c. search needs)
+    (λ c. search needs)
+    returns-3
+    (λ c. search needs)
+    (λ c. search needs)
+    returns-4)

@@ -1,0 +1,77 @@
+-- The search by rectangle in the first `used` bytes of a buffer m, with a window w and a lent list l.
+--     numberOf, placeOf, countOf, blocksOf    document 01's number, place, count found and blocks walked of an answer. Beside 9, which returns the count
+--                                             needed, every count in a refusal is 0
+--     checkedLength m used       a length that is checked against the limits and the buffer; else 0, which no map has
+--     liveIn m w s               whether slot s is live and its rectangle meets the window
+--     slotsFor test n            the slots of n index blocks that pass a test, ascending, each once
+--     found m n w                those that the search lists: the live ones that meet the window
+--     answerFor, answerOf        1 to 7 as the check has them; 8: left > right or bottom > top; 9: the list is shorter than the count
+--     listAfter m used w l       what the lent list holds afterwards: the slots found in its first entries and the rest as it was; after a refusal all as it was
+use Prim.Native.Nat.{ℕ, _*_}
+use mathlib.Core.Bool.{Bool, cond, _&&_}
+use mathlib.Core.List.{List}
+use lib.Dec.{ltb}
+use lib.ListN.{length}
+use lib.Seq.{sets}
+use Rattle.numbers.specs.Below.{sel}
+use Rattle.records.specs.declared.Window.{Window}
+use Rattle.records.specs.Slots.{slotOf, stateOf}
+use Rattle.records.specs.Windows.{windowGood, meetsWindow}
+use Rattle.accept.specs.declared.Verdict.{Verdict}
+use Rattle.accept.specs.declared.Verdict.the-variants as verdicts
+use Rattle.accept.specs.Rules.{slotAt}
+use Rattle.accept.specs.Judging.{lengthGood, isLive}
+use Rattle.accept.specs.Verdicts.{verdict}
+use Rattle.find.specs.declared.Answer.{Answer}
+use Rattle.find.specs.declared.Answer.the-variants.{Found, Short, Refused}
+
+abbrev pub numberOf : Answer → ℕ
+numberOf (Found c b) = 0
+numberOf (Short c) = 9
+numberOf (Refused n p) = n
+
+abbrev pub placeOf : Answer → ℕ
+placeOf (Found c b) = 0
+placeOf (Short c) = 0
+placeOf (Refused n p) = p
+
+abbrev pub countOf : Answer → ℕ
+countOf (Found c b) = c
+countOf (Short c) = c
+countOf (Refused n p) = 0
+
+abbrev pub blocksOf : Answer → ℕ
+blocksOf (Found c b) = b
+blocksOf (Short c) = 0
+blocksOf (Refused n p) = 0
+
+unfoldable pub checkedLength : List ℕ → ℕ → ℕ
+checkedLength m used = cond (lengthGood m used) used 0
+
+unfoldable pub wantedAt : List ℕ → Window → ℕ → Bool
+wantedAt m w p = isLive (stateOf (slotOf m p)) && meetsWindow (slotOf m p) w
+
+abbrev pub liveIn : List ℕ → Window → ℕ → Bool
+liveIn m w s = wantedAt m w (slotAt m s)
+
+unfoldable pub slotsFor : (ℕ → Bool) → ℕ → List ℕ
+slotsFor test n = sel test (256 * n)
+
+abbrev pub found : List ℕ → ℕ → Window → List ℕ
+found m n w = slotsFor (liveIn m w) n
+
+unfoldable pub answerFor : Verdict → (ℕ → List ℕ) → Bool → ℕ → Answer
+answerFor (verdicts.Refused n p) hits good room = Refused n p
+answerFor (verdicts.Accepted n) hits good room =
+    cond good (cond (ltb room (length (hits n))) (Short (length (hits n))) (Found (length (hits n)) n)) (Refused 8 0)
+
+unfoldable pub answerOf : List ℕ → ℕ → Window → ℕ → Answer
+answerOf m used w room = answerFor (verdict m used) (λ n. found m n w) (windowGood w) room
+
+abbrev pub listFor : Answer → (ℕ → List ℕ) → List ℕ → List ℕ
+listFor (Found c b) hits l = sets l 0 (hits b)
+listFor (Short c) hits l = l
+listFor (Refused n p) hits l = l
+
+unfoldable pub listAfter : List ℕ → ℕ → Window → List ℕ → List ℕ
+listAfter m used w l = listFor (answerOf m used w (length l)) (λ n. found m n w) l

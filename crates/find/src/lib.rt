@@ -1,0 +1,217 @@
+// The search by rectangle: count, then list.
+use accept::Verdict;
+use chain::next_cell;
+use numbers::signed32_of;
+use numbers::u32_at;
+use records::Header;
+use records::Slot;
+use records::State;
+use records::Window;
+use records::meets_window;
+use records::read_slot;
+use records::window_good;
+ghost use mathlib.Core.Path.{_≡_};
+ghost use Prim.Native.Nat.{ℕ, _+_, _*_, _≤_, _<_};
+ghost use lib.ListN.{length};
+ghost use lib.Seq.{sets};
+ghost use Rattle.records.specs.Sizes.{headerSize, slotSize, mapLimit};
+ghost use Rattle.chain.specs.Chains.{walked};
+ghost use Rattle.chain.specs.declared.Walk.the-variants.{Blocks};
+ghost use Rattle.accept.specs.Rules.{indexRule};
+ghost use Rattle.find.specs.Searches.{numberOf, placeOf, countOf, blocksOf, checkedLength, wantedAt, found, answerOf, listAfter};
+ghost use Rattle.find.specs.Inputs.{windowSize, windowOf, inputAnswer, inputList};
+
+// What a search answers: the count found and the blocks walked; or the count that the list is too short for; or a refusal.
+pub enum Answer {
+    Found { count: u32, blocks: u32 },
+    Short { count: u32 },
+    Refused { number: u32, place: u32 },
+}
+
+// Document 01's number of an answer.
+pub fn number(a: Answer) -> u32
+    ensures { λ r. ⌜ r ≡ numberOf a ⌝ }
+{
+    match a {
+        Answer::Found {
+            count: _,
+            blocks: _,
+        } => 0,
+        Answer::Short { count: _ } => 9,
+        Answer::Refused { number, place: _ } => number,
+    }
+}
+
+// Document 01's place of an answer.
+pub fn place(a: Answer) -> u32
+    ensures { λ r. ⌜ r ≡ placeOf a ⌝ }
+{
+    match a {
+        Answer::Found {
+            count: _,
+            blocks: _,
+        } => 0,
+        Answer::Short { count: _ } => 0,
+        Answer::Refused { number: _, place } => place,
+    }
+}
+
+// The count found, or needed.
+pub fn count(a: Answer) -> u32
+    ensures { λ r. ⌜ r ≡ countOf a ⌝ }
+{
+    match a {
+        Answer::Found { count, blocks: _ } => count,
+        Answer::Short { count } => count,
+        Answer::Refused {
+            number: _,
+            place: _,
+        } => 0,
+    }
+}
+
+// The blocks walked.
+pub fn blocks(a: Answer) -> u32
+    ensures { λ r. ⌜ r ≡ blocksOf a ⌝ }
+{
+    match a {
+        Answer::Found { count: _, blocks } => blocks,
+        Answer::Short { count: _ } => 0,
+        Answer::Refused {
+            number: _,
+            place: _,
+        } => 0,
+    }
+}
+
+// A length that is checked against the limits and the buffer, else 0.
+pub fn checked_length(m: &[u8], used: usize) -> usize
+    ensures { λ r. ⌜ r ≡ checkedLength (now (m .entry)) used ⌝ }
+{
+    if used < Header::SIZE {
+        return 0;
+    }
+    if 16777216 < used {
+        return 0;
+    }
+    if m.len() < used {
+        return 0;
+    }
+    used
+}
+
+// Whether the slot at a place is live and its rectangle meets the window.
+fn wanted(m: &[u8], at: usize, w: Window) -> bool
+    requires { ⌜ at + slotSize ≤ length (now m) ⌝ }
+    ensures { λ r. ⌜ r ≡ wantedAt (now (m .entry)) w at ⌝ }
+{
+    let found = read_slot(m, at);
+    let state = found.state;
+    match state {
+        State::Free => false,
+        State::Erased => false,
+        State::Live => {
+            let t = found.slot;
+            meets_window(t, w)
+        }
+    }
+}
+
+// How many slots of an accepted map's n index blocks the search finds.
+pub fn count_slots(m: &[u8], used: usize, n: usize, w: Window) -> usize
+    requires { ⌜ (headerSize ≤ used) × (used ≤ mapLimit) × (used ≤ length (now m)) × (walked (indexRule (now m)) (now m) used ≡ Blocks n) ⌝ }
+    ensures { λ r. ⌜ r ≡ length (found (now (m .entry)) n w) ⌝ }
+{
+    let mut at = u32_at(m, Header::INDEX) as usize + 4;
+    let mut s = 0;
+    let mut count = 0;
+    while s < 256 * n {
+        if wanted(m, at, w) {
+            count += 1;
+        }
+        at = next_cell(m, at, s, Slot::SIZE);
+        s += 1;
+    }
+    count
+}
+
+// Their numbers, in the first entries of a list that has room for them.
+fn list_slots(m: &[u8], used: usize, n: usize, w: Window, list: &mut [u32])
+    requires { ⌜ (headerSize ≤ used) × (used ≤ mapLimit) × (used ≤ length (now m)) × (walked (indexRule (now m)) (now m) used ≡ Blocks n) × (length (found (now m) n w) ≤ length (now list)) ⌝ }
+    ensures { λ r. ⌜ now (list .exit) ≡ sets (now (list .entry)) 0 (found (now (m .entry)) n w) ⌝ }
+{
+    let mut at = u32_at(m, Header::INDEX) as usize + 4;
+    let mut s = 0;
+    let mut filled = 0;
+    while s < 256 * n {
+        if wanted(m, at, w) {
+            list[filled] = s as u32;
+            filled += 1;
+        }
+        at = next_cell(m, at, s, Slot::SIZE);
+        s += 1;
+    }
+}
+
+// The search. Any slice, any `used`, any window, any list.
+pub fn search(m: &[u8], used: usize, w: Window, list: &mut [u32]) -> Answer
+    ensures { λ r. ⌜ (r ≡ answerOf (now (m .entry)) used w (length (now (list .entry)))) × (now (list .exit) ≡ listAfter (now (m .entry)) used w (now (list .entry))) ⌝ }
+{
+    let v = accept::check(m, used);
+    match v {
+        Verdict::Refused { number, place } => Answer::Refused { number, place },
+        Verdict::Accepted { blocks } => {
+            if !window_good(w) {
+                return Answer::Refused {
+                    number: 8,
+                    place: 0,
+                };
+            }
+            let needed = count_slots(m, used, blocks, w);
+            if list.len() < needed {
+                return Answer::Short {
+                    count: needed as u32,
+                };
+            }
+            list_slots(m, used, blocks, w, list);
+            Answer::Found {
+                count: needed as u32,
+                blocks: blocks as u32,
+            }
+        }
+    }
+}
+
+// The window that starts the search program's input.
+fn window_of(input: &[u8]) -> Window
+    requires { ⌜ windowSize ≤ length (now input) ⌝ }
+    ensures { λ r. ⌜ r ≡ windowOf (now (input .entry)) ⌝ }
+{
+    Window {
+        left: signed32_of(u32_at(input, 0)),
+        bottom: signed32_of(u32_at(input, 4)),
+        right: signed32_of(u32_at(input, 8)),
+        top: signed32_of(u32_at(input, 12)),
+    }
+}
+
+// The search on the program's input: a window, then a map of at most 65,536 bytes.
+pub fn search_input(input: &[u8], list: &mut [u32]) -> Answer
+    ensures { λ r. ⌜ (r ≡ inputAnswer (now (input .entry)) (length (now (list .entry)))) × (now (list .exit) ≡ inputList (now (input .entry)) (now (list .entry))) ⌝ }
+{
+    if input.len() < 16 {
+        return Answer::Refused {
+            number: 1,
+            place: 0,
+        };
+    }
+    if 65552 < input.len() {
+        return Answer::Refused {
+            number: 1,
+            place: 0,
+        };
+    }
+    let w = window_of(input);
+    let used = input.len() - 16;
+    search(&input[16..], used, w, list)
+}

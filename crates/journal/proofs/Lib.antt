@@ -1,0 +1,9 @@
+-- Laws that belong to no one function.
+--     Below       more of `any`: tests that agree, and a test made of two
+--     Records     a record's shape, and the records in use
+--     Journals    a journal that is well formed, what holds a number, and a journal with one record more
+--     Seen        the marks by which a number is known to be new
+pub mod Below
+pub mod Records
+pub mod Journals
+pub mod Seen

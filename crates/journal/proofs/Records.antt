@@ -1,0 +1,89 @@
+-- The laws of a journal's records: what a good shape tells, and which records are in use. Assumes nothing.
+use Prim.Native.Nat.{ℕ, zero, suc, _+_, _*_, _≤_, _<_}
+use mathlib.Core.Bool.{true, false, not, _&&_}
+use mathlib.Core.Path.{_≡_, refl}
+use mathlib.Core.List.{List}
+use native.Mathlib.Omega.{arith}
+use lib.Dec.{eqb, leb}
+use lib.ListN.{length, length-append}
+use borrow.Author.Tests.{eq-eqb, ne-eqb, le-leb, leb-true, eqb-true, eqb-false, not-true}
+use Rattle.numbers.proofs.Below.{First, first-law}
+use Rattle.records.specs.declared.JournalRecord.{JournalRecord}
+use Rattle.records.specs.Journals.{kindGood, shapeGood, isUnused}
+use Rattle.journal.specs.Journals.{recordIn, total, inUse, isFull, recordsTo, recordsOf}
+use Rattle.journal.proofs.Below.{and-tells}
+
+-- ---- a record's shape
+
+pub record Shape (r : JournalRecord) : Type 0 where
+  pub number : r .number ≡ 0 → ⊥
+  pub least : 1 ≤ r .kind
+  pub most : r .kind ≤ 3
+  pub zeros : r .zeros ≡ 0
+
+pub shape-tells : (r : JournalRecord) → shapeGood r ≡ true → Shape r
+unfolding shapeGood kindGood
+shape-tells r e =
+    let a = and-tells (not (eqb (r .number) 0)) ((leb 1 (r .kind) && leb (r .kind) 3) && eqb (r .zeros) 0) e in
+    let b = and-tells (leb 1 (r .kind) && leb (r .kind) 3) (eqb (r .zeros) 0) (a .1) in
+    let k = and-tells (leb 1 (r .kind)) (leb (r .kind) 3) (b .0) in
+    record {
+      number = eqb-false _ _ (not-true _ (a .0));
+      least = leb-true _ _ (k .0);
+      most = leb-true _ _ (k .1);
+      zeros = eqb-true _ _ (b .1);
+    }
+
+pub shape-is : (r : JournalRecord) → Shape r → shapeGood r ≡ true
+unfolding shapeGood kindGood
+shape-is r s = rw (ne-eqb _ _ (s .number), le-leb _ _ (s .least), le-leb _ _ (s .most), eq-eqb _ _ (s .zeros))
+
+-- a record of good shape is not unused
+pub shape-in-use : (r : JournalRecord) → shapeGood r ≡ true → isUnused r ≡ false
+unfolding isUnused
+shape-in-use r e = rw (ne-eqb _ _ (shape-tells r e .number))
+
+-- ---- the records in use
+
+-- they are those before the first unused
+pub in-use-first : (jn : List ℕ) → First (λ i. isUnused (recordIn jn i)) (total jn) (inUse jn)
+unfolding inUse
+in-use-first jn = first-law (λ i. isUnused (recordIn jn i)) (total jn)
+
+pub in-use-within : (jn : List ℕ) → inUse jn ≤ total jn
+in-use-within jn = in-use-first jn .within
+
+pub in-use-not-unused : (jn : List ℕ) (i : ℕ) → i < inUse jn → isUnused (recordIn jn i) ≡ false
+in-use-not-unused jn = in-use-first jn .before
+
+-- their bytes lie inside the journal
+pub in-use-bytes : (jn : List ℕ) → 16 * inUse jn ≤ length jn
+in-use-bytes jn = omega (arith, in-use-within jn)
+
+-- a journal that is not full has an unused record behind them
+pub not-full : (jn : List ℕ) → isFull jn ≡ false → inUse jn < total jn
+unfolding isFull
+not-full jn e = omega (arith, in-use-within jn, eqb-false (inUse jn) (total jn) e)
+
+pub next-unused : (jn : List ℕ) → inUse jn < total jn → isUnused (recordIn jn (inUse jn)) ≡ true
+next-unused jn = in-use-first jn .here
+
+pub next-bytes : (jn : List ℕ) → inUse jn < total jn → 16 * inUse jn + 16 ≤ length jn
+next-bytes jn h = omega arith
+
+-- ---- the records as a list
+
+length-recordsTo : (jn : List ℕ) (k : ℕ) → length (recordsTo jn k) ≡ k
+unfolding recordsTo
+length-recordsTo jn zero = refl
+length-recordsTo jn (suc k) = rw (length-append, length-recordsTo jn k) (omega arith)
+
+pub length-recordsOf : (jn : List ℕ) → length (recordsOf jn) ≡ inUse jn
+unfolding recordsOf
+length-recordsOf jn = length-recordsTo jn (inUse jn)
+
+-- the list goes by the records alone
+pub recordsTo-same : (jn kn : List ℕ) (k : ℕ) → ((i : ℕ) → i < k → recordIn jn i ≡ recordIn kn i) → recordsTo jn k ≡ recordsTo kn k
+unfolding recordsTo
+recordsTo-same jn kn zero h = refl
+recordsTo-same jn kn (suc k) h = rw (recordsTo-same jn kn k (λ i l. h i (omega arith)), h k (omega arith))

@@ -1,0 +1,3 @@
+-- The definitions that the contracts of `journal` cite.
+--     Journals     a whole journal: its records, whether it is well formed for a map, the number that it holds, the next record
+pub mod Journals

@@ -1,0 +1,124 @@
+-- What is stored is bytes, so a buffer of bytes stays one. Assumes nothing.
+use Prim.Native.Nat.{ℕ, zero, suc, _+_, _-_, _/_, _<_}
+use mathlib.Core.Bool.{Bool, true, false, cond}
+use mathlib.Core.Path.{_≡_}
+use mathlib.Core.Logic.{⊎-elim}
+use mathlib.Core.List.{List, [], _∷_, _++_}
+use native.Mathlib.Decide.{ℕ-discrete}
+use native.Mathlib.Nat.{mod-lt}
+use native.Mathlib.Omega.{arith}
+use lib.ListN.{length, getD, set, replicate, List·getD-append}
+use lib.Seq.{sets, getD-set-same, getD-set-other, set-out, getD-append-add}
+use Rattle.numbers.specs.Bytes.{Bytes, bytesOf}
+use Rattle.numbers.proofs.Coordinates.{lt-or-ge}
+use Rattle.records.specs.declared.Slot.{Slot}
+use Rattle.records.specs.declared.JournalRecord.{JournalRecord}
+use Rattle.records.specs.Slots.{slotBytes}
+use Rattle.records.specs.Journals.{recordBytes}
+use Rattle.chain.proofs.Tables.{zeros}
+use Rattle.journal.specs.Journals.{appended}
+use Rattle.chain.specs.Chains.{place}
+use Rattle.accept.specs.Rules.{slotAt}
+use Rattle.edit.specs.Slots.{withSym, freeSlot}
+use Rattle.edit.specs.Objects.{blockFor}
+use Rattle.edit.specs.Edits.{isFree, slotAdded, inFree, inBlock, addedMap}
+
+byte-set : (xs : List ℕ) (i a : ℕ) → Bytes xs → a < 256 → Bytes (set xs i a)
+byte-set xs i a b l j =
+    elim (ℕ-discrete j i) [
+      | yes e ↦
+          ⊎-elim
+          (λ h. rw (e, getD-set-same xs i a 0 h) l)
+          (λ h. rw (set-out xs i a h) (b j))
+          (lt-or-ge i (length xs))
+      | no e ↦ rw (getD-set-other xs i j a 0 e) (b j)
+    ]
+
+pub bytes-sets : (vs xs : List ℕ) (i : ℕ) → Bytes xs → Bytes vs → Bytes (sets xs i vs)
+bytes-sets [] xs i b v = b
+bytes-sets (a ∷ vs) xs i b v = bytes-sets vs (set xs i a) (suc i) (byte-set xs i a b (v 0)) (λ k. v (suc k))
+
+bytes-append : (xs ys : List ℕ) → Bytes xs → Bytes ys → Bytes (xs ++ ys)
+bytes-append xs ys a b i =
+    ⊎-elim
+    (λ l. rw (List·getD-append xs ys 0 i l) (a i))
+    (λ l.
+    let e : i ≡ length xs + (i - length xs) = omega arith in
+    rw (e, getD-append-add xs ys (i - length xs) 0) (b (i - length xs)))
+    (lt-or-ge i (length xs))
+
+pub bytes-of : (n v : ℕ) → Bytes (bytesOf n v)
+unfolding bytesOf
+bytes-of zero v zero = omega arith
+bytes-of zero v (suc i) = omega arith
+bytes-of (suc n) v zero = mod-lt v (omega arith)
+bytes-of (suc n) v (suc i) = bytes-of n (v / 256) i
+
+-- the same as a record, which shows its list
+pub record All (xs : List ℕ) : Type 0 where
+  pub all : Bytes xs
+
+field : (n v : ℕ) → All (bytesOf n v)
+field n v = record { all = bytes-of n v }
+
+pub then : {xs ys : List ℕ} → All xs → All ys → All (xs ++ ys)
+then {xs} {ys} a b = record { all = bytes-append xs ys (a .all) (b .all) }
+
+-- one byte more in front
+pub bytes-cons : {a : ℕ} {xs : List ℕ} → a < 256 → All xs → All (a ∷ xs)
+bytes-cons {a} {xs} l b = record { all = go }
+  where
+    go : (i : ℕ) → getD (a ∷ xs) i 0 < 256
+    go zero = l
+    go (suc i) = b .all i
+
+pub bytes-nil : All []
+bytes-nil = record { all = λ i. omega arith }
+
+pub zero-bytes : (n : ℕ) → All (replicate n 0)
+zero-bytes n = record { all = λ i. rw (zeros n i) (omega arith) }
+
+slot-bytes : (t : Slot) → All (slotBytes t)
+unfolding slotBytes
+slot-bytes t =
+    then (field 4 (t .left))
+    (then (field 4 (t .bottom))
+    (then (field 4 (t .right))
+    (then (field 4 (t .top)) (then (field 4 (t .position)) (then (field 2 (t .len)) (field 2 (t .sym)))))))
+
+record-bytes : (r : JournalRecord) → All (recordBytes r)
+unfolding recordBytes
+record-bytes r = then (field 4 (r .number)) (then (field 4 (r .kind)) (then (field 4 (r .slot)) (field 4 (r .zeros))))
+
+pub appended-bytes : (j : List ℕ) (r : JournalRecord) → Bytes j → Bytes (appended j r)
+unfolding appended
+appended-bytes j r b = bytes-sets (recordBytes r) j _ b (record-bytes r .all)
+
+pub sym-bytes : (m : List ℕ) (s y : ℕ) → Bytes m → Bytes (withSym m s y)
+unfolding withSym
+sym-bytes m s y b = bytes-sets (bytesOf 2 y) m _ b (bytes-of 2 y)
+
+block-bytes : (t : Slot) → All (blockFor t)
+unfolding blockFor
+block-bytes t = then (zero-bytes 4) (then (slot-bytes t) (zero-bytes 6120))
+
+module _ (m : List ℕ) (used n : ℕ) (o : List ℕ) (b : Bytes m) (c : Bytes o) where
+  free-bytes : Bytes (inFree m used n o)
+  unfolding inFree
+  free-bytes =
+      bytes-sets (slotBytes (slotAdded m used o)) (sets m used o) (slotAt m (freeSlot m n)) (bytes-sets o m used b c) (slot-bytes (slotAdded m used o) .all)
+
+  new-bytes : Bytes (inBlock m used n o)
+  unfolding inBlock
+  new-bytes =
+      bytes-sets (bytesOf 4 (used + length o)) (sets (sets m used o) (used + length o) (blockFor (slotAdded m used o))) (place 12 m n)
+      (bytes-sets (blockFor (slotAdded m used o)) (sets m used o) (used + length o) (bytes-sets o m used b c) (block-bytes (slotAdded m used o) .all))
+      (bytes-of 4 (used + length o))
+
+  pub added-bytes : Bytes (addedMap m used n o)
+  unfolding addedMap
+  added-bytes = go (isFree m n)
+    where
+      go : (f : Bool) → Bytes (cond f (inFree m used n o) (inBlock m used n o))
+      go true = free-bytes
+      go false = new-bytes

@@ -1,0 +1,190 @@
+-- A call keeps a good state good, and a done one has moved the map and appended its record. Assumes nothing.
+use Prim.Native.Nat.{ℕ, _+_, _*_, _^_, _≤_, _<_}
+use mathlib.Core.Bool.{Bool, true, false}
+use mathlib.Core.Path.{_≡_, refl, sym, ap, _∙_}
+use mathlib.Core.Logic.{_⊎_, inl, inr, ⊎-elim}
+use mathlib.Core.List.{List, [], _∷_, _++_}
+use native.Mathlib.Omega.{arith}
+use lib.ListN.{length, getD}
+use Rattle.numbers.specs.Bytes.{Bytes}
+use Rattle.numbers.proofs.Below.{never}
+use Rattle.records.specs.declared.JournalRecord.{JournalRecord}
+use Rattle.records.specs.Journals.{recordFor, shapeGood}
+use Rattle.records.proofs.Journals.{RecordFits}
+use Rattle.accept.specs.declared.Verdict.the-variants as verdicts
+use Rattle.accept.specs.Verdicts.{verdict}
+use Rattle.accept.proofs.Accepting.{Holds, accepted-tells, accepted-is}
+use Rattle.accept.proofs.Writes.{pass-of}
+use Rattle.chain.proofs.Chains.{few}
+use Rattle.journal.specs.Journals.{wellFormed, isHeld, isFull, appended, slotUsed}
+use Rattle.journal.proofs.Journals.{appended-well}
+use Rattle.journal.proofs.Records.{shape-is}
+use Rattle.edit.specs.declared.Answer.{Answer}
+use Rattle.edit.specs.declared.Answer.the-variants.{Done, Before, Refused}
+use Rattle.records.specs.declared.State.the-variants.{Erased, Live}
+use Rattle.accept.specs.Judging.{versionOf}
+use Rattle.accept.proofs.Telling.{and-true}
+use Rattle.edit.specs.Slots.{slotIn, hasState, resym, withSym, objectSym, canReinstate, allowedFor, symFor, freeSlot}
+use Rattle.edit.specs.Objects.{offeredGood}
+use Rattle.edit.proofs.Syms.{has-tells}
+use Rattle.edit.specs.Edits.{Outcome, changed, added, newLength, addedMap, slotAdded}
+use Rattle.promise.specs.Runs.{State, Call, add, remove, reinstate, search, outcome, lengthAfter, next, step, isDoneAnswer, isDone, recordOf, Edited, applied, Good, Sent}
+use Rattle.promise.specs.Promises.{edited}
+use Rattle.promise.proofs.Bytes.{appended-bytes, sym-bytes, added-bytes}
+use Rattle.promise.proofs.Steps.{Still, DoneChange, DoneAdd, change-cases, add-cases}
+use Rattle.promise.proofs.Moves.{Moved, moved-use, moved-here, object-sym-fits, changed-slot, remove-moved, reinstate-moved, blocksAfter, added-grown, free-before, added-moved}
+
+-- what each edit does to its own slot, s, in a map m of n index blocks that becomes m′
+abbrev pub Effect : Call → List ℕ → ℕ → ℕ → List ℕ → ℕ → Type 0
+Effect (add e o) m used n m′ s =
+    (s < 256 * n → slotIn m s .len ≡ 0) × (slotIn m′ s ≡ slotAdded m used o) × (offeredGood (versionOf m) o ≡ true) × ((i : ℕ) → i < length o → getD m′ (used + i) 0 ≡ getD o i 0)
+Effect (remove e t) m used n m′ s = (s ≡ t) × (hasState Live m n s ≡ true) × (slotIn m′ s ≡ resym (slotIn m s) 0)
+Effect (reinstate e t) m used n m′ s = (s ≡ t) × (canReinstate m used n s ≡ true) × (slotIn m′ s ≡ resym (slotIn m s) (objectSym m s))
+Effect (search w) m used n m′ s = ⊥
+
+-- a done call c: its slot and its record, and what it has moved
+pub record Did (st : State) (c : Call) (n : ℕ) : Type 0 where
+  pub slot : ℕ
+  pub own : recordOf c slot .slot ≡ slot
+  pub blocks : ℕ
+  pub answer : outcome st c .answer ≡ Done slot (step st c .used)
+  pub moved : Moved (st .map) (step st c .map) (st .used) (step st c .used) n blocks slot
+  pub fresh : isHeld (st .journal) (recordOf c slot .number) ≡ false
+  pub well : wellFormed (st .journal) (st .map) n ≡ true
+  pub room : isFull (st .journal) ≡ false
+  pub fits : RecordFits (recordOf c slot)
+  pub shape : shapeGood (recordOf c slot) ≡ true
+  pub journal : step st c .journal ≡ appended (st .journal) (recordOf c slot)
+  pub bytes : Bytes (step st c .map)
+  pub applies : edited (step st c) ≡ applied c (edited st)
+  pub effect : Effect c (st .map) (st .used) n (step st c .map) slot
+
+-- a slot's number fits 32 bits
+slot-fits : {m : List ℕ} {used n : ℕ} → Holds m used n → (s : ℕ) → s < 256 * n → s < 2 ^ 32
+slot-fits {m} {used} {n} h s l = omega (arith, few (pass-of h) (omega arith), h .limit)
+
+record-good : (e kind s : ℕ) → e < 2 ^ 32 → (e ≡ 0 → ⊥) → 1 ≤ kind → kind ≤ 3 → s < 2 ^ 32 → RecordFits (recordFor e kind s) × (shapeGood (recordFor e kind s) ≡ true)
+record-good e kind s f ne a b g =
+    (record { number = f; kind = omega arith; slot = g; zeros = omega arith }, shape-is (recordFor e kind s) (record { number = ne; least = a; most = b; zeros = refl }))
+
+edited-ext : {m m′ : List ℕ} {used used′ : ℕ} → m ≡ m′ → used ≡ used′ → _≡_ {A = Edited} (record { map = m; used = used }) (record { map = m′; used = used′ })
+edited-ext a b = λ i. record { map = a i; used = b i }
+
+-- a slot that can be reinstated exists
+can-exists : (m : List ℕ) (used n s : ℕ) → canReinstate m used n s ≡ true → s < 256 * n
+unfolding canReinstate
+can-exists m used n s e = has-tells Erased m n s (and-true (hasState Erased m n s) _ e .0) .0
+
+-- a call that is not done leaves the state
+still-same : (st : State) (out : Outcome) → Still (st .map) (st .journal) out → next (st .used) out ≡ st
+still-same st out s = λ i. record { map = s .map i; used = same (out .answer) (s .idle) i; journal = s .journal i }
+  where
+    same : (a : Answer) → isDoneAnswer a ≡ false → lengthAfter a (st .used) ≡ st .used
+    same (Done t l) e = absurd (never e)
+    same (Before t l) e = refl
+    same (Refused n p) e = refl
+
+pub record Idle (st : State) (c : Call) : Type 0 where
+  pub same : step st c ≡ st
+  pub idle : isDone st c ≡ false
+
+pub idle-of : (st : State) (c : Call) → Still (st .map) (st .journal) (outcome st c) → Idle st c
+unfolding step isDone
+idle-of st c s = record { same = still-same st (outcome st c) s; idle = s .idle }
+
+module _ {st : State} (g : Good st) where
+  h : Holds (st .map) (st .used) (g .blocks)
+  h = accepted-tells (st .map) (st .used) (g .blocks) (g .accepted)
+
+  -- a removal or a reinstatement, by its kind
+  module _ (c : Call) (e kind s : ℕ) (is : outcome st c ≡ changed (st .map) (st .used) (st .journal) e kind s) (rec : recordOf c s ≡ recordFor e kind s)
+      (applies : applied c (edited st) ≡ record { map = withSym (st .map) s (symFor kind (st .map) s); used = st .used })
+      (effects : allowedFor kind (st .map) (st .used) (g .blocks) s ≡ true → Effect c (st .map) (st .used) (g .blocks) (withSym (st .map) s (symFor kind (st .map) s)) s)
+      (least : 1 ≤ kind) (most : kind ≤ 3) (fits : e < 2 ^ 32)
+      (moves : allowedFor kind (st .map) (st .used) (g .blocks) s ≡ true → Moved (st .map) (withSym (st .map) s (symFor kind (st .map) s)) (st .used) (st .used) (g .blocks) (g .blocks) s) where
+    did-change : DoneChange (st .map) (st .used) (st .journal) e kind s (g .blocks) (outcome st c) → Did st c (g .blocks)
+    unfolding step
+    did-change d =
+        let mv = moves (d .allowed) in
+        let r = record-good e kind s fits (d .number) least most (slot-fits h s (mv .here)) in
+        let len : lengthAfter (outcome st c .answer) (st .used) ≡ st .used = rw (d .answer) in
+        record {
+          slot = s;
+          own = rw rec;
+          blocks = g .blocks;
+          answer = rw len (d .answer);
+          moved = rw (len, d .map) mv;
+          fresh = rw rec (d .fresh);
+          well = d .well;
+          room = d .room;
+          fits = rw rec (r .0);
+          shape = rw rec (r .1);
+          journal = rw rec (d .journal);
+          bytes = rw (d .map) (sym-bytes (st .map) s (symFor kind (st .map) s) (g .map-bytes));
+          applies = edited-ext (d .map) len ∙ sym applies;
+          effect = rw (d .map) (effects (d .allowed));
+        }
+
+    change-step : Idle st c ⊎ Did st c (g .blocks)
+    change-step =
+        ⊎-elim
+        (λ x. inl (idle-of st c (rw is x)))
+        (λ d. inr (did-change (rw is d)))
+        (change-cases (st .map) (st .used) (st .journal) e kind s (g .blocks) (g .accepted))
+
+  -- an add
+  module _ (e : ℕ) (o : List ℕ) (fits : e < 2 ^ 32) (bytes : Bytes o) where
+    add-applies : applied (add e o) (edited st) ≡ record { map = addedMap (st .map) (st .used) (g .blocks) o; used = newLength (st .map) (st .used) (g .blocks) o }
+    unfolding applied
+    add-applies = rw (g .accepted)
+
+    did-add : DoneAdd (st .map) (st .used) (st .journal) e o (g .blocks) (added (st .map) (st .used) (st .journal) e o) → Did st (add e o) (g .blocks)
+    unfolding step
+    did-add d =
+        let mv = added-moved h o bytes (d .offered) (d .limit) (d .fits) in
+        let gr = added-grown h o bytes (d .offered) (d .limit) (d .fits) in
+        let r = record-good e 1 (freeSlot (st .map) (g .blocks)) fits (d .number) (omega arith) (omega arith) (slot-fits (mv .holds) (freeSlot (st .map) (g .blocks)) (mv .here)) in
+        let len : lengthAfter (added (st .map) (st .used) (st .journal) e o .answer) (st .used) ≡ newLength (st .map) (st .used) (g .blocks) o = rw (d .answer) in
+        record {
+          slot = freeSlot (st .map) (g .blocks);
+          own = refl;
+          blocks = blocksAfter h o bytes (d .offered) (d .limit) (d .fits);
+          answer = rw len (d .answer);
+          moved = rw (len, d .map) mv;
+          fresh = d .fresh;
+          well = d .well;
+          room = d .room;
+          fits = r .0;
+          shape = r .1;
+          journal = d .journal;
+          bytes = rw (d .map) (added-bytes (st .map) (st .used) (g .blocks) o (g .map-bytes) bytes);
+          applies = edited-ext (d .map) len ∙ sym add-applies;
+          effect = rw (d .map) (free-before h o bytes (d .offered) (d .limit) (d .fits), gr .new, d .offered, gr .stored);
+        }
+
+    add-step : Idle st (add e o) ⊎ Did st (add e o) (g .blocks)
+    add-step = ⊎-elim (λ x. inl (idle-of st (add e o) x)) (λ d. inr (did-add d)) (add-cases (st .map) (st .used) (st .journal) e o (g .blocks) (g .accepted))
+
+  -- every call: it is not done and changes nothing, or it is done
+  pub call-cases : (c : Call) → Sent c → Idle st c ⊎ Did st c (g .blocks)
+  call-cases (add e o) a = add-step e o (a .0) (a .1)
+  call-cases (remove e s) a = change-step (remove e s) e 2 s refl refl (unfold applied in refl) (λ k. (refl, k, changed-slot h (g .map-bytes) s (has-tells Live (st .map) (g .blocks) s k .0) 0 (omega arith))) (omega arith) (omega arith) (a .0) (λ k. remove-moved h (g .map-bytes) s k)
+  call-cases (reinstate e s) a = change-step (reinstate e s) e 3 s refl refl (unfold applied in refl) (λ k. (refl, k, changed-slot h (g .map-bytes) s (can-exists (st .map) (st .used) (g .blocks) s k) (objectSym (st .map) s) (object-sym-fits h (g .map-bytes) s))) (omega arith) (omega arith) (a .0) (λ k. reinstate-moved h (g .map-bytes) s k)
+  call-cases (search w) a = inl (idle-of st (search w) (record { map = refl; journal = refl; idle = refl }))
+
+-- what is done keeps the state good
+unfoldable pub did-good : {st : State} {c : Call} {n : ℕ} → Good st → Did st c n → Good (step st c)
+did-good {st} {c} {n} g d =
+    record {
+      blocks = d .blocks;
+      accepted = accepted-is (d .moved .holds);
+      well = rw (d .journal) (appended-well (st .journal) (st .map) (step st c .map) n (d .blocks) (recordOf c (d .slot)) (d .well) (d .room) (d .fresh) (d .fits) (d .shape) (moved-use (d .moved)) (here d));
+      map-bytes = d .bytes;
+      journal-bytes = rw (d .journal) (appended-bytes (st .journal) (recordOf c (d .slot)) (g .journal-bytes));
+    }
+  where
+    here : (d : Did st c n) → slotUsed (step st c .map) (d .blocks) (recordOf c (d .slot) .slot) ≡ true
+    here d = rw (d .own) (moved-here (d .moved))
+
+pub step-good : {st : State} → Good st → (c : Call) → Sent c → Good (step st c)
+step-good g c a = ⊎-elim (λ i. rw (i .same) g) (λ d. did-good g d) (call-cases g c a)

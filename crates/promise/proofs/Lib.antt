@@ -1,0 +1,19 @@
+-- The proofs of the promises.
+--     Steps        an edit's outcome by cases: nothing changes, or it is done
+--     Bytes        a buffer of bytes stays one
+--     Moves        what a done edit does to the map, for the three edits alike
+--     Contents     live slots and their contents across a done edit
+--     Keeping      a call keeps a good state good
+--     Promises     the promises over runs
+--     Bridge       edit by edit, contents that stay, the footbridge
+--     Answers      one answer each
+--     Tables       the worked examples
+pub mod Steps
+pub mod Bytes
+pub mod Moves
+pub mod Contents
+pub mod Keeping
+pub mod Promises
+pub mod Bridge
+pub mod Answers
+pub mod Tables

@@ -1,0 +1,157 @@
+-- The promises over runs, proved. Each name is that of its statement in specs/Promises.antt, in small letters. Assumes nothing.
+use Prim.Native.Nat.{ℕ, _+_, _-_, _*_, _/_, _≤_, _<_}
+use mathlib.Core.Bool.{Bool, true, false, cond}
+use mathlib.Core.Path.{_≡_, refl, sym, ap, _∙_}
+use mathlib.Core.Logic.{_⊎_, inl, inr, ⊎-elim}
+use mathlib.Core.List.{List, [], _∷_, _++_, append-assoc, append-nil}
+use native.Mathlib.Omega.{arith}
+use lib.ListN.{length}
+use Rattle.numbers.specs.Ranges.{share}
+use Rattle.numbers.proofs.Below.{never}
+use Rattle.records.specs.declared.JournalRecord.{JournalRecord}
+use Rattle.records.specs.Headers.{indexHead}
+use Rattle.chain.specs.Chains.{block}
+use Rattle.chain.proofs.Chains.{disjoint, few, walked-end}
+use Rattle.accept.specs.Rules.{indexRule}
+use Rattle.accept.specs.Verdicts.{verdict}
+use Rattle.accept.proofs.Accepting.{Holds, accepted-tells, accepted-is}
+use Rattle.accept.proofs.Writes.{pass-of}
+use Rattle.journal.specs.Journals.{isHeld, holder, recordIn, recordsOf}
+use Rattle.journal.proofs.Journals.{room-of, recordsOf-appended, length-appended, appended-keeps, appended-record-kept}
+use Rattle.edit.specs.declared.Answer.the-variants.{Done}
+use Rattle.edit.specs.Edits.{slotNo}
+use Rattle.promise.specs.Runs.{State, Call, add, remove, reinstate, search, outcome, step, run, isDone, doneIn, recordsIn, recordOf, blocksIn, blocksOf, appliedAll, applied, Good, Sent, AllSent}
+use Rattle.promise.specs.Promises.{StaysGood, Ends, IndexEnds, SlotNumbersStay, edited, AppliedOnce, JournalGrows, editNumber, NeverActsAgain, NothingElse}
+use Rattle.promise.proofs.Steps.{change-idle, add-idle}
+use Rattle.promise.proofs.Keeping.{Did, Idle, idle-of, call-cases, did-good, step-good}
+
+pub stays-good : StaysGood
+unfolding run
+stays-good st [] g a = g
+stays-good st (c ∷ cs) g a = stays-good (step st c) cs (step-good g c (a .0)) (a .1)
+
+pub holds-of : {st : State} (g : Good st) → Holds (st .map) (st .used) (g .blocks)
+holds-of {st} g = accepted-tells (st .map) (st .used) (g .blocks) (g .accepted)
+
+pub blocks-of : {st : State} (g : Good st) → blocksIn (st .map) (st .used) ≡ g .blocks
+blocks-of g = ap blocksOf (g .accepted)
+
+good-ends : {st : State} → Good st → Ends (st .map) (st .used)
+good-ends {st} g =
+    let h = holds-of g in
+    let e = blocks-of g in
+    record {
+      disjoint = λ i k a b ne. disjoint (pass-of h) i k (rw e at a) (rw e at b) ne;
+      end = rw e (walked-end (indexRule (st .map)) (st .map) (st .used) (h .index));
+      within = rw e (few (pass-of h) (omega arith));
+    }
+
+pub index-ends : IndexEnds
+index-ends st cs g a = good-ends (stays-good st cs g a)
+
+-- ---- one call, for what grows along a run
+
+-- the index blocks: no fewer, and the old ones where they were
+record Longer (st st′ : State) : Type 0 where
+  upto : blocksIn (st .map) (st .used) ≤ blocksIn (st′ .map) (st′ .used)
+  blocks : (k : ℕ) → k < blocksIn (st .map) (st .used) → block indexHead (st′ .map) k ≡ block indexHead (st .map) k
+
+longer-step : {st : State} → Good st → (c : Call) → Sent c → Longer st (step st c)
+longer-step {st} g c a =
+    ⊎-elim
+    (λ i. rw (i .same) (record { upto = omega arith; blocks = λ k l. refl }))
+    (λ (d : Did st c (g .blocks)).
+    let e = blocks-of g in
+    let f : blocksIn (step st c .map) (step st c .used) ≡ d .blocks = ap blocksOf (accepted-is (d .moved .holds)) in
+    record { upto = omega (arith, e, f, d .moved .change .upto); blocks = λ k l. d .moved .change .blocks k (rw e at l) })
+    (call-cases g c a)
+
+pub slot-numbers-stay : SlotNumbersStay
+unfolding run
+slot-numbers-stay st [] g a = (omega arith, λ k l. refl)
+slot-numbers-stay st (c ∷ cs) g a =
+    let s = longer-step g c (a .0) in
+    let r = slot-numbers-stay (step st c) cs (step-good g c (a .0)) (a .1) in
+    (omega (arith, s .upto, r .0), λ k l. r .1 k (omega (arith, s .upto)) ∙ s .blocks k l)
+
+did-done : {st : State} {c : Call} {n : ℕ} → Did st c n → isDone st c ≡ true
+unfolding isDone
+did-done d = rw (d .answer)
+
+pub applied-once : AppliedOnce
+unfolding run doneIn appliedAll
+applied-once st [] g a = refl
+applied-once st (c ∷ cs) g a =
+    ⊎-elim
+    (λ (i : Idle st c). rw (i .idle) (applied-once (step st c) cs (step-good g c (a .0)) (a .1) ∙ ap (λ (x : State). appliedAll (doneIn (step st c) cs) (edited x)) (i .same)))
+    (λ (d : Did st c (g .blocks)). rw (did-done d) (applied-once (step st c) cs (step-good g c (a .0)) (a .1) ∙ ap (appliedAll (doneIn (step st c) cs)) (d .applies)))
+    (call-cases g c (a .0))
+
+-- ---- the journal
+
+did-records : {st : State} {c : Call} {n : ℕ} → Good st → (d : Did st c n) → recordsOf (step st c .journal) ≡ recordsOf (st .journal) ++ (recordOf c (slotNo (outcome st c .answer)) ∷ [])
+did-records {st} {c} {n} g d =
+    rw (d .journal, d .answer) (recordsOf-appended (st .journal) (recordOf c (d .slot)) (room-of (st .journal) (st .map) n (d .well) (d .room)) (d .fits) (d .shape))
+
+pub journal-grows : JournalGrows
+unfolding run recordsIn
+journal-grows st [] g a = (sym (append-nil (recordsOf (st .journal))), refl)
+journal-grows st (c ∷ cs) g a =
+    let r = journal-grows (step st c) cs (step-good g c (a .0)) (a .1) in
+    ⊎-elim
+    (λ (i : Idle st c). rw (i .idle) (r .0 ∙ ap (λ (x : State). recordsOf (x .journal) ++ recordsIn (step st c) cs) (i .same), r .1 ∙ ap (λ (x : State). length (x .journal)) (i .same)))
+    (λ (d : Did st c (g .blocks)).
+    rw (did-done d) (
+      r .0 ∙ ap (λ (x : List JournalRecord). x ++ recordsIn (step st c) cs) (did-records g d) ∙ append-assoc (recordsOf (st .journal)) (recordOf c (slotNo (outcome st c .answer)) ∷ []) (recordsIn (step st c) cs),
+      r .1 ∙ ap length (d .journal) ∙ length-appended (st .journal) (recordOf c (d .slot)),
+    ))
+    (call-cases g c (a .0))
+
+-- ---- what is not done changes nothing
+
+pub nothing-else : NothingElse
+unfolding isDone
+nothing-else st (add e o) i = idle-of st (add e o) (add-idle (st .map) (st .used) (st .journal) e o (verdict (st .map) (st .used)) refl i) .same
+nothing-else st (remove e s) i = idle-of st (remove e s) (change-idle (st .map) (st .used) (st .journal) e 2 s (verdict (st .map) (st .used)) refl i) .same
+nothing-else st (reinstate e s) i = idle-of st (reinstate e s) (change-idle (st .map) (st .used) (st .journal) e 3 s (verdict (st .map) (st .used)) refl i) .same
+nothing-else st (search w) i = idle-of st (search w) (record { map = refl; journal = refl; idle = refl }) .same
+
+-- ---- a number that is held
+
+-- the record that holds it stays
+pub record Keeps (j : List ℕ) (e : ℕ) (r : JournalRecord) : Type 0 where
+  pub held : isHeld j e ≡ true
+  pub is : recordIn j (holder j e) ≡ r
+
+pub keeps-step : {st : State} → Good st → (c : Call) → Sent c → {e : ℕ} {r : JournalRecord} → Keeps (st .journal) e r → Keeps (step st c .journal) e r
+keeps-step {st} g c a {e} k =
+    ⊎-elim
+    (λ (i : Idle st c). rw (i .same) k)
+    (λ (d : Did st c (g .blocks)).
+    let room = room-of (st .journal) (st .map) (g .blocks) (d .well) (d .room) in
+    rw (d .journal)
+    (record {
+      held = appended-keeps (st .journal) (recordOf c (d .slot)) room (d .fits) (d .shape) e (k .held);
+      is = appended-record-kept (st .journal) (recordOf c (d .slot)) room (d .fits) (d .shape) e (k .held) ∙ k .is;
+    }))
+    (call-cases g c a)
+
+pub keeps-run : {st : State} → Good st → (cs : List Call) → AllSent cs → {e : ℕ} {r : JournalRecord} → Keeps (st .journal) e r → Keeps (run st cs .journal) e r
+unfolding run
+keeps-run g [] a k = k
+keeps-run g (c ∷ cs) a k = keeps-run (step-good g c (a .0)) cs (a .1) (keeps-step g c (a .0) k)
+
+number-of : (c : Call) (s : ℕ) → recordOf c s .number ≡ editNumber c
+number-of (add e o) s = refl
+number-of (remove e t) s = refl
+number-of (reinstate e t) s = refl
+number-of (search w) s = refl
+
+pub never-acts-again : NeverActsAgain
+never-acts-again st cs c g a b h =
+    let g′ = stays-good st cs g a in
+    let k = keeps-run g cs a (record { held = h; is = refl }) in
+    ⊎-elim
+    (λ (i : Idle (run st cs) c). (i .same, i .idle))
+    (λ (d : Did (run st cs) c (g′ .blocks)). absurd (never (sym (rw (number-of c (d .slot)) (k .held)) ∙ d .fresh)))
+    (call-cases g′ c b)

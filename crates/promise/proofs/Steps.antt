@@ -1,0 +1,179 @@
+-- One call: what it does to a good state. Assumes nothing.
+use Prim.Native.Nat.{ℕ, _+_, _*_, _^_, _≤_, _<_}
+use mathlib.Core.Bool.{Bool, true, false, not, cond, _&&_}
+use mathlib.Core.Path.{_≡_, refl, sym, ap, _∙_}
+use mathlib.Core.Logic.{_⊎_, inl, inr, ⊎-elim}
+use mathlib.Core.List.{List, [], _∷_, _++_}
+use native.Mathlib.Omega.{arith}
+use lib.Dec.{eqb, leb, ltb}
+use lib.ListN.{length, getD}
+use Rattle.numbers.specs.Bytes.{Bytes}
+use Rattle.numbers.proofs.Below.{never}
+use Rattle.records.specs.declared.JournalRecord.{JournalRecord}
+use Rattle.records.specs.Journals.{recordFor}
+use Rattle.accept.specs.declared.Verdict.{Verdict}
+use Rattle.accept.specs.declared.Verdict.the-variants as verdicts
+use Rattle.accept.specs.Judging.{versionOf}
+use Rattle.accept.specs.Verdicts.{verdict}
+use Rattle.accept.proofs.Accepting.{Holds, accepted-tells, accepted-is}
+use Rattle.accept.proofs.Telling.{and-true}
+use borrow.Author.Tests.{leb-true}
+use Rattle.journal.specs.declared.Look.{Look}
+use Rattle.journal.specs.declared.Look.the-variants.{Malformed, Held, New}
+use Rattle.journal.specs.Journals.{looked, isFull, isHeld, holder, recordIn, appended, wellFormed}
+use Rattle.journal.proofs.Journals.{looked-held, looked-new}
+use Rattle.edit.specs.declared.Answer.{Answer}
+use Rattle.edit.specs.declared.Answer.the-variants.{Done, Before, Refused}
+use Rattle.edit.specs.declared.Start.{Start}
+use Rattle.edit.specs.declared.Start.the-variants as starts
+use Rattle.edit.specs.Slots.{slotIn, withSym, allowedFor, symFor, freeSlot}
+use Rattle.edit.specs.Objects.{offeredGood, isObject}
+use Rattle.edit.specs.Edits.{Outcome, saying, after, afterCheck, afterLook, startOf, repeatChange, freshChange, changed, newLength, addedMap, repeatAdd, freshAdd, added}
+use Rattle.promise.specs.Runs.{isDoneAnswer}
+
+-- ---- an edit's outcome by cases
+
+-- the state as it was, with an answer that is not "done"
+pub record Still (m j : List ℕ) (out : Outcome) : Type 0 where
+  pub map : out .map ≡ m
+  pub journal : out .journal ≡ j
+  pub idle : isDoneAnswer (out .answer) ≡ false
+
+still : (m j : List ℕ) (a : Answer) → isDoneAnswer a ≡ false → Still m j (saying m j a)
+still m j a e = record { map = refl; journal = refl; idle = e }
+
+-- how an edit starts, in a map that is accepted
+start-of : (m : List ℕ) (used : ℕ) (j : List ℕ) (e n : ℕ) → verdict m used ≡ verdicts.Accepted n → startOf m used j e ≡ afterLook n (looked j m n e)
+unfolding startOf
+start-of m used j e n v = rw v
+
+-- what a done change tells
+pub record DoneChange (m : List ℕ) (used : ℕ) (j : List ℕ) (e kind s n : ℕ) (out : Outcome) : Type 0 where
+  pub number : e ≡ 0 → ⊥
+  pub fresh : isHeld j e ≡ false
+  pub well : wellFormed j m n ≡ true
+  pub allowed : allowedFor kind m used n s ≡ true
+  pub room : isFull j ≡ false
+  pub answer : out .answer ≡ Done s used
+  pub map : out .map ≡ withSym m s (symFor kind m s)
+  pub journal : out .journal ≡ appended j (recordFor e kind s)
+
+module _ (m : List ℕ) (used : ℕ) (j : List ℕ) (e kind s n : ℕ) (v : verdict m used ≡ verdicts.Accepted n) where
+  repeat-still : (k t : ℕ) → Still m j (repeatChange m used j kind s k t)
+  unfolding repeatChange
+  repeat-still k t = go (eqb k kind && eqb t s)
+    where
+      go : (b : Bool) → Still m j (cond b (saying m j (Before s used)) (saying m j (Refused 14 0)))
+      go true = still m j (Before s used) refl
+      go false = still m j (Refused 14 0) refl
+
+  fresh-cases : isHeld j e ≡ false → (e ≡ 0 → ⊥) → wellFormed j m n ≡ true
+      → Still m j (freshChange m used j e kind s (allowedFor kind m used n s) (symFor kind m s))
+      ⊎ DoneChange m used j e kind s n (freshChange m used j e kind s (allowedFor kind m used n s) (symFor kind m s))
+  unfolding freshChange
+  fresh-cases f ne w = go (allowedFor kind m used n s) refl (isFull j) refl
+    where
+      go : (a : Bool) → allowedFor kind m used n s ≡ a → (b : Bool) → isFull j ≡ b
+          → Still m j (cond a (cond b (saying m j (Refused 15 0)) (record { answer = Done s used; map = withSym m s (symFor kind m s); journal = appended j (recordFor e kind s) })) (saying m j (Refused 12 0)))
+          ⊎ DoneChange m used j e kind s n (cond a (cond b (saying m j (Refused 15 0)) (record { answer = Done s used; map = withSym m s (symFor kind m s); journal = appended j (recordFor e kind s) })) (saying m j (Refused 12 0)))
+      go false p b q = inl (still m j (Refused 12 0) refl)
+      go true p true q = inl (still m j (Refused 15 0) refl)
+      go true p false q = inr (record { number = ne; fresh = f; well = w; allowed = p; room = q; answer = refl; map = refl; journal = refl })
+
+  pub change-cases : Still m j (changed m used j e kind s) ⊎ DoneChange m used j e kind s n (changed m used j e kind s)
+  unfolding changed
+  change-cases = rw (start-of m used j e n v) (go (looked j m n e) refl)
+    where
+      abbrev-after : Look → Outcome
+      abbrev-after l = after m j (λ n k t. repeatChange m used j kind s k t) (λ n. freshChange m used j e kind s (allowedFor kind m used n s) (symFor kind m s)) (afterLook n l)
+
+      go : (l : Look) → looked j m n e ≡ l → Still m j (abbrev-after l) ⊎ DoneChange m used j e kind s n (abbrev-after l)
+      go Malformed q = inl (still m j (Refused 13 0) refl)
+      go (Held k t) q = inl (repeat-still k t)
+      go (New k) q = let h = looked-new j m n e k q in fresh-cases (h .1) (h .0 .number) (h .0 .well)
+
+  -- a number that is held changes nothing
+  pub change-held : isHeld j e ≡ true → Still m j (changed m used j e kind s)
+  change-held h = ⊎-elim (λ x. x) (λ d. absurd (never (sym h ∙ d .fresh))) change-cases
+
+-- what a done add tells
+pub record DoneAdd (m : List ℕ) (used : ℕ) (j : List ℕ) (e : ℕ) (o : List ℕ) (n : ℕ) (out : Outcome) : Type 0 where
+  pub number : e ≡ 0 → ⊥
+  pub fresh : isHeld j e ≡ false
+  pub well : wellFormed j m n ≡ true
+  pub offered : offeredGood (versionOf m) o ≡ true
+  pub limit : newLength m used n o ≤ 16777216
+  pub fits : newLength m used n o ≤ length m
+  pub room : isFull j ≡ false
+  pub answer : out .answer ≡ Done (freeSlot m n) (newLength m used n o)
+  pub map : out .map ≡ addedMap m used n o
+  pub journal : out .journal ≡ appended j (recordFor e 1 (freeSlot m n))
+
+module _ (m : List ℕ) (used : ℕ) (j : List ℕ) (e : ℕ) (o : List ℕ) (n : ℕ) (v : verdict m used ≡ verdicts.Accepted n) where
+  repeat-add-still : (k t : ℕ) → Still m j (repeatAdd m used j o k t)
+  unfolding repeatAdd
+  repeat-add-still k t = go (eqb k 1 && isObject m used (slotIn m t) o)
+    where
+      go : (b : Bool) → Still m j (cond b (saying m j (Before t used)) (saying m j (Refused 14 0)))
+      go true = still m j (Before t used) refl
+      go false = still m j (Refused 14 0) refl
+
+  abbrev addDone : Outcome
+  addDone = record { answer = Done (freeSlot m n) (newLength m used n o); map = addedMap m used n o; journal = appended j (recordFor e 1 (freeSlot m n)) }
+
+  fresh-add-cases : isHeld j e ≡ false → (e ≡ 0 → ⊥) → wellFormed j m n ≡ true → Still m j (freshAdd m used j e o n) ⊎ DoneAdd m used j e o n (freshAdd m used j e o n)
+  unfolding freshAdd
+  fresh-add-cases f ne w = go (offeredGood (versionOf m) o) refl (leb (newLength m used n o) 16777216 && leb (newLength m used n o) (length m)) refl (isFull j) refl
+    where
+      go : (a : Bool) → offeredGood (versionOf m) o ≡ a → (b : Bool) → leb (newLength m used n o) 16777216 && leb (newLength m used n o) (length m) ≡ b → (c : Bool) → isFull j ≡ c
+          → Still m j (cond a (cond b (cond c (saying m j (Refused 15 0)) addDone) (saying m j (Refused 11 0))) (saying m j (Refused 10 0)))
+          ⊎ DoneAdd m used j e o n (cond a (cond b (cond c (saying m j (Refused 15 0)) addDone) (saying m j (Refused 11 0))) (saying m j (Refused 10 0)))
+      go false p b q c r = inl (still m j (Refused 10 0) refl)
+      go true p false q c r = inl (still m j (Refused 11 0) refl)
+      go true p true q true r = inl (still m j (Refused 15 0) refl)
+      go true p true q false r =
+          let l = and-true (leb (newLength m used n o) 16777216) (leb (newLength m used n o) (length m)) q in
+          inr
+          (record {
+            number = ne;
+            fresh = f;
+            well = w;
+            offered = p;
+            limit = leb-true (newLength m used n o) 16777216 (l .0);
+            fits = leb-true (newLength m used n o) (length m) (l .1);
+            room = r;
+            answer = refl;
+            map = refl;
+            journal = refl;
+          })
+
+  pub add-cases : Still m j (added m used j e o) ⊎ DoneAdd m used j e o n (added m used j e o)
+  unfolding added
+  add-cases = rw (start-of m used j e n v) (go (looked j m n e) refl)
+    where
+      then : Look → Outcome
+      then l = after m j (λ n k t. repeatAdd m used j o k t) (λ n. freshAdd m used j e o n) (afterLook n l)
+
+      go : (l : Look) → looked j m n e ≡ l → Still m j (then l) ⊎ DoneAdd m used j e o n (then l)
+      go Malformed q = inl (still m j (Refused 13 0) refl)
+      go (Held k t) q = inl (repeat-add-still k t)
+      go (New k) q = let h = looked-new j m n e k q in fresh-add-cases (h .1) (h .0 .number) (h .0 .well)
+
+  pub add-held : isHeld j e ≡ true → Still m j (added m used j e o)
+  add-held h = ⊎-elim (λ x. x) (λ d. absurd (never (sym h ∙ d .fresh))) add-cases
+
+-- ---- in any map at all: what is not done changes nothing
+
+any-start : (m : List ℕ) (used : ℕ) (j : List ℕ) (e k p : ℕ) → verdict m used ≡ verdicts.Refused k p → startOf m used j e ≡ starts.Refused k p
+unfolding startOf
+any-start m used j e k p v = rw v
+
+pub change-idle : (m : List ℕ) (used : ℕ) (j : List ℕ) (e kind s : ℕ) (v : Verdict) → verdict m used ≡ v → isDoneAnswer (changed m used j e kind s .answer) ≡ false → Still m j (changed m used j e kind s)
+change-idle m used j e kind s (verdicts.Accepted n) q i =
+    ⊎-elim (λ x. x) (λ d. absurd (never (sym (ap isDoneAnswer (d .answer)) ∙ i))) (change-cases m used j e kind s n q)
+change-idle m used j e kind s (verdicts.Refused k p) q i = unfold changed in rw (any-start m used j e k p q) (still m j (Refused k p) refl)
+
+pub add-idle : (m : List ℕ) (used : ℕ) (j : List ℕ) (e : ℕ) (o : List ℕ) (v : Verdict) → verdict m used ≡ v → isDoneAnswer (added m used j e o .answer) ≡ false → Still m j (added m used j e o)
+add-idle m used j e o (verdicts.Accepted n) q i =
+    ⊎-elim (λ x. x) (λ d. absurd (never (sym (ap isDoneAnswer (d .answer)) ∙ i))) (add-cases m used j e o n q)
+add-idle m used j e o (verdicts.Refused k p) q i = unfold added in rw (any-start m used j e k p q) (still m j (Refused k p) refl)

@@ -1,0 +1,9 @@
+-- What is promised of whole runs of calls.
+--     Runs         a state, the calls, one step by the calls' own definitions, a run
+--     Promises     the customer's sentences, each a statement over runs
+--     Answers      one answer each: any two results that a call's statement allows are equal
+--     Tables       document 01's worked examples that are to be proved
+pub mod Runs
+pub mod Promises
+pub mod Answers
+pub mod Tables

@@ -1,0 +1,43 @@
+-- The worked examples of document 01 that are to be proved, as one table: the seven coordinates, the two windows, and the lengths 48, 6,236 and 6,276.
+--     empty7          an empty map of version 7, 48 bytes
+--     pointObject     a 40-byte object: Sym 101, type 1, one pair, (5, 5)
+use Prim.Native.Nat.{ℕ, _≤_}
+use mathlib.Core.Bool.{Bool, true, false}
+use mathlib.Core.List.{List, [], _∷_, _++_, map}
+use mathlib.Core.Path.{_≡_}
+use lib.IntN.{ℤ, pos, negsuc}
+use lib.ListN.{length, replicate}
+use Rattle.numbers.specs.Coordinates.{valueOf}
+use Rattle.records.specs.declared.Slot.{Slot}
+use Rattle.records.specs.declared.Window.{Window}
+use Rattle.records.specs.Windows.{meetsWindow}
+use Rattle.accept.specs.declared.Verdict.the-variants.{Accepted}
+use Rattle.accept.specs.Judging.{versionOf}
+use Rattle.accept.specs.Verdicts.{verdict}
+use Rattle.edit.specs.Objects.{slotFor}
+use Rattle.edit.specs.Edits.{newLength, addedMap}
+
+abbrev pub empty7 : List ℕ
+empty7 = 173 ∷ 12 ∷ 7 ∷ 0 ∷ 7 ∷ 0 ∷ replicate 42 0
+
+abbrev pub pointObject : List ℕ
+pointObject = 101 ∷ 0 ∷ 1 ∷ 0 ∷ 1 ∷ 0 ∷ 0 ∷ 0 ∷ (replicate 24 0 ++ (0 ∷ 5 ∷ 0 ∷ 0 ∷ 0 ∷ 5 ∷ 0 ∷ 0 ∷ []))
+
+abbrev pub pointSlot : Slot
+pointSlot = record { left = 1280; bottom = 1280; right = 1280; top = 1280; position = 48; len = 40; sym = 101 }
+
+abbrev pub square : ℕ → ℕ → Window
+square a b = record { left = pos a; bottom = pos a; right = pos b; top = pos b }
+
+pub record Table : Type 0 where
+  -- raw 25602, 255, -1, -256, -257, 2147483647, -2147483648, as their 32 bits
+  pub coordinates : map valueOf (25602 ∷ 255 ∷ 4294967295 ∷ 4294967040 ∷ 4294967039 ∷ 2147483647 ∷ 2147483648 ∷ [])
+      ≡ pos 100 ∷ pos 0 ∷ negsuc 0 ∷ negsuc 0 ∷ negsuc 1 ∷ pos 8388607 ∷ negsuc 8388607 ∷ []
+  -- point (5, 5): found by 5..10 both ways, not by 6..10
+  pub found : meetsWindow pointSlot (square 5 10) ≡ true
+  pub missed : meetsWindow pointSlot (square 6 10) ≡ false
+  -- the empty map of 48 bytes is accepted; its slot for the object; the length after one add; and after a second
+  pub accepted : verdict empty7 48 ≡ Accepted 0
+  pub slot : slotFor 7 pointObject 48 ≡ pointSlot
+  pub first : newLength empty7 48 0 pointObject ≡ 6236
+  pub second : (m : List ℕ) → verdict m 48 ≡ Accepted 0 → versionOf m ≡ 7 → 6236 ≤ length m → newLength (addedMap m 48 0 pointObject) 6236 1 pointObject ≡ 6276

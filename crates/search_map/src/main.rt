@@ -1,0 +1,109 @@
+// The search program: reads a window and then a map from standard input, and writes the blocks walked, the count found and a line for each slot found; or the
+// refusal. The search is `find`'s. What is here follows the links once more for the lines, with a test before every read.
+use find::Answer;
+use libc::STDIN_FILENO;
+use libc::STDOUT_FILENO;
+use numbers::u32_at;
+use records::Header;
+use records::IndexBlock;
+use records::Slot;
+ghost use Prim.Native.Nat.{_<_};
+
+// A word, a number and a newline.
+fn write_line(word: &[u8], n: u32) {
+    io::write_all(STDOUT_FILENO, word);
+    io::print_decimal(STDOUT_FILENO, n as u64);
+    io::write_all(STDOUT_FILENO, b"\n");
+}
+
+// A Sym, with its sign.
+fn write_sym(sym: u16) {
+    if sym < 32768 {
+        io::print_decimal(STDOUT_FILENO, sym as u64);
+    } else {
+        io::write_all(STDOUT_FILENO, b"-");
+        io::print_decimal(STDOUT_FILENO, 65536 - sym as u64);
+    }
+}
+
+// The link stored at a place, or 0 where the map is too short for one.
+fn link_at(m: &[u8], at: usize) -> usize
+    ensures { λ r. ⌜ r < 4294967296 ⌝ }
+{
+    if m.len() < 4 {
+        return 0;
+    }
+    if m.len() - 4 < at {
+        return 0;
+    }
+    u32_at(m, at) as usize
+}
+
+// Where index block k starts.
+fn block_at(m: &[u8], k: usize) -> usize
+    ensures { λ r. ⌜ r < 4294967296 ⌝ }
+{
+    let mut at = link_at(m, Header::INDEX);
+    let mut i = 0;
+    while i < k {
+        at = link_at(m, at);
+        i += 1;
+    }
+    at
+}
+
+// The line of a slot: its number, its Sym and its position.
+fn write_slot(m: &[u8], s: u32) {
+    let block = IndexBlock::new(block_at(m, s as usize / 256));
+    let at = block.slot(s as usize % 256);
+    if m.len() < Slot::SIZE {
+        return;
+    }
+    if m.len() - Slot::SIZE < at {
+        return;
+    }
+    let t = Slot::at(m, at);
+    io::print_decimal(STDOUT_FILENO, s as u64);
+    io::write_all(STDOUT_FILENO, b" ");
+    write_sym(t.sym);
+    write_line(b" ", t.position);
+}
+
+// The lines of the first slots of a list.
+fn write_slots(m: &[u8], list: &[u32], count: usize) {
+    let mut i = 0;
+    while i < count {
+        if i < list.len() {
+            write_slot(m, list[i]);
+        }
+        i += 1;
+    }
+}
+
+// What the program writes of an answer.
+fn write_answer(input: &[u8], list: &[u32], a: Answer) {
+    match a {
+        Answer::Found { count, blocks } => {
+            write_line(b"blocks ", blocks);
+            write_line(b"found ", count);
+            if 16 <= input.len() {
+                write_slots(&input[16..], list, count as usize);
+            }
+        }
+        Answer::Short { count: _ } => write_line(b"refused 9 at ", 0),
+        Answer::Refused { number, place } => {
+            io::write_all(STDOUT_FILENO, b"refused ");
+            io::print_decimal(STDOUT_FILENO, number as u64);
+            write_line(b" at ", place);
+        }
+    }
+}
+
+// 16 bytes of window, 65,536 of map, and one more that tells a longer map. A map of 65,536 bytes has at most 10 index blocks, 2,560 slots.
+fn main() {
+    let mut input = [0u8; 65553];
+    let n = io::read_full(STDIN_FILENO, &mut input);
+    let mut list = [0u32; 2560];
+    let a = find::search_input(&input[..n], &mut list);
+    write_answer(&input[..n], &list, a);
+}

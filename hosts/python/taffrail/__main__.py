@@ -1,0 +1,6 @@
+"""``python3 -m taffrail``."""
+
+from .cli import run
+
+if __name__ == "__main__":
+    run()

@@ -1,0 +1,115 @@
+"""The system calls that the store makes, and what is said to people when one fails."""
+
+from __future__ import annotations
+
+import errno
+import fcntl
+import os
+from typing import List
+
+
+class FileProblem(Exception):
+    """A file cannot be used. The message says which one and why."""
+
+
+class Locked(FileProblem):
+    """Another process holds the file, and the wait is over."""
+
+
+WORDS = {
+    errno.ENOENT: "no such file",
+    errno.EISDIR: "is a directory, not a plain file",
+    errno.EROFS: "is on a read-only file system",
+}
+
+
+def file_problem(path: str, problem: OSError) -> FileProblem:
+    """The problem that the system has with this file, in words."""
+    said = WORDS.get(problem.errno or 0, problem.strerror or str(problem))
+    return FileProblem(f"{path}: {said}")
+
+
+class Files:
+    """Every system call of the store, one method each.
+
+    A test replaces this object to end the process at any of them.
+    """
+
+    def real_path(self, path: str) -> str:
+        return os.path.realpath(path)
+
+    def open(self, path: str, flags: int) -> int:
+        return os.open(path, flags | os.O_CLOEXEC | os.O_NONBLOCK)
+
+    def create(self, path: str, flags: int, mode: int) -> int:
+        return os.open(path, flags | os.O_CREAT | os.O_CLOEXEC | os.O_NONBLOCK, mode)
+
+    def close(self, handle: int) -> None:
+        os.close(handle)
+
+    def lock(self, handle: int, kind: int) -> None:
+        fcntl.flock(handle, kind | fcntl.LOCK_NB)
+
+    def about(self, handle: int) -> os.stat_result:
+        return os.fstat(handle)
+
+    def about_path(self, path: str) -> os.stat_result:
+        return os.stat(path)
+
+    def read(self, handle: int, size: int, at: int) -> bytes:
+        return os.pread(handle, size, at)
+
+    def write(self, handle: int, data: bytes, at: int) -> int:
+        return os.pwrite(handle, data, at)
+
+    def sync(self, handle: int) -> None:
+        os.fsync(handle)
+
+    def set_owner(self, handle: int, user: int, group: int) -> None:
+        os.fchown(handle, user, group)
+
+    def set_mode(self, handle: int, mode: int) -> None:
+        os.fchmod(handle, mode)
+
+    def rename(self, path: str, new_path: str) -> None:
+        os.rename(path, new_path)
+
+    def remove(self, path: str) -> None:
+        os.unlink(path)
+
+
+def read_up_to(files: Files, handle: int, most: int) -> bytes:
+    """The file's bytes from its start, at most so many."""
+    parts: List[bytes] = []
+    at = 0
+    while at < most:
+        part = files.read(handle, most - at, at)
+        if not part:
+            break
+        parts.append(part)
+        at += len(part)
+    return b"".join(parts)
+
+
+def write_all(files: Files, handle: int, data: bytes, at: int) -> None:
+    """Writes all the bytes from this place on."""
+    written = 0
+    while written < len(data):
+        written += files.write(handle, data[written:], at + written)
+
+
+def discard(files: Files, path: str) -> None:
+    """Removes the file of this name, if there is one."""
+    try:
+        files.remove(path)
+    except FileNotFoundError:
+        pass
+
+
+def sync_folder_of(files: Files, path: str) -> None:
+    """Brings to disk which names are in the folder that this file is in."""
+    handle = files.open(os.path.dirname(path), os.O_RDONLY | os.O_DIRECTORY)
+    try:
+        files.sync(handle)
+    finally:
+        files.close(handle)

@@ -1,0 +1,672 @@
+"""Saving a map and its journal: cuts at every system call, failing calls, and many at once."""
+
+from __future__ import annotations
+
+import fcntl
+import os
+import random
+import shutil
+import subprocess
+import time
+import unittest
+from pathlib import Path
+from typing import Callable, List, Sequence, Tuple
+
+from support_host import FolderTest, command_line, environment, object_bytes, run
+from support_cut import (
+    ALL,
+    CHANGING,
+    CountingFiles,
+    Ended,
+    Event,
+    count_calls,
+    cut,
+    cut_after,
+    cut_in_the_middle,
+    no_space,
+    run_here,
+    run_in_child,
+)
+
+from taffrail import layout
+from taffrail.files import FileProblem
+from taffrail.pending import Pending, change_between, encode_pending
+from taffrail.store import PARTNER, PENDING, Store, Wanted
+
+MOST = 10_000_000
+Pair = Tuple[bytes, bytes]
+
+
+class Scene:
+    """A folder with a pair of files, and a command that changes them."""
+
+    def __init__(self, test: CutTest, *command: object) -> None:
+        self.test = test
+        self.command = command
+        self.start = test.folder / "start"
+        self.work = test.folder / "work"
+        self.look = test.folder / "look"
+        self.old = self.pair_in(self.start)
+        self.begin()
+        self.calls = {kind: self.count(kind) for kind in (ALL, CHANGING)}
+        self.new = self.pair_in(self.work)
+
+    def arguments(self, folder: Path, command: Sequence[object]) -> List[object]:
+        """The command with MAP and JOURNAL as the files in this folder."""
+        names = {"MAP": folder / "maps" / "city.ocd", "JOURNAL": folder / "city.journal"}
+        return [names.get(str(word), word) for word in command]
+
+    def pair_in(self, folder: Path) -> Pair:
+        """The bytes that the two files really have."""
+        return (folder / "maps" / "city.ocd").read_bytes(), (folder / "city.journal").read_bytes()
+
+    def copy(self, source: Path, target: Path) -> None:
+        shutil.rmtree(target, ignore_errors=True)
+        shutil.copytree(source, target)
+
+    def begin(self) -> None:
+        self.copy(self.start, self.work)
+
+    def count(self, counted: Sequence[str]) -> int:
+        self.begin()
+        return count_calls(self.arguments(self.work, self.command), counted)
+
+    def run(self, chosen: int, counted: Sequence[str], event: Event) -> Ended:
+        """The command on fresh files, with the event at this call."""
+        self.begin()
+        files = CountingFiles(counted, chosen, event)
+        return run_in_child(self.arguments(self.work, self.command), files)
+
+    def look_with(self, see: Callable[[Path], Pair]) -> Pair:
+        """What can be seen of the files as the command left them; they stay as they are."""
+        self.copy(self.work, self.look)
+        return see(self.look)
+
+
+# Ways to look at a pair. Each stands for the next command that opens it.
+
+
+def map_then_journal(folder: Path) -> Pair:
+    store = Store(wait=0)
+    seen = store.read(Wanted(str(folder / "maps" / "city.ocd"), MOST))
+    return seen, store.read(Wanted(str(folder / "city.journal"), MOST))
+
+
+def journal_then_map(folder: Path) -> Pair:
+    store = Store(wait=0)
+    seen = store.read(Wanted(str(folder / "city.journal"), MOST))
+    return store.read(Wanted(str(folder / "maps" / "city.ocd"), MOST)), seen
+
+
+def an_edit(folder: Path) -> Pair:
+    names = (folder / "maps" / "city.ocd", folder / "city.journal")
+    with Store(wait=0).edit(*[Wanted(str(name), MOST) for name in names]) as group:
+        seen_map, seen_journal = group.contents
+    return seen_map, seen_journal
+
+
+def without_writing(folder: Path) -> Pair:
+    """A reader to whom the files are read-only."""
+    names = (folder / "maps" / "city.ocd", folder / "city.journal")
+    before = [name.read_bytes() for name in names]
+    for name in names:
+        name.chmod(0o444)
+    seen = journal_then_map(folder)
+    assert [name.read_bytes() for name in names] == before
+    return seen
+
+
+LOOKS = (map_then_journal, journal_then_map, an_edit, without_writing)
+
+
+class CutTest(FolderTest):
+    """Sets the scenes up. The map is in a folder of its own, apart from the journal."""
+
+    def make_scene(self, *command: object, before: Sequence[Sequence[object]] = ()) -> Scene:
+        folder = self.folder / "start"
+        (folder / "maps").mkdir(parents=True)
+        self.map, self.journal = folder / "maps" / "city.ocd", folder / "city.journal"
+        self.make_pair(records=4)
+        for earlier in before:
+            names = {"MAP": self.map, "JOURNAL": self.journal}
+            ended = run_here(*[names.get(str(word), word) for word in earlier])
+            self.assertEqual(ended.code, 0, ended.wrote)
+        return Scene(self, *command)
+
+    def first_add(self) -> Scene:
+        return self.make_scene("add", "MAP", "JOURNAL", "--edit", 1, self.object)
+
+    def second_add(self) -> Scene:
+        added = ("add", "MAP", "JOURNAL", "--edit", 1, self.object)
+        return self.make_scene("add", "MAP", "JOURNAL", "--edit", 2, self.object, before=[added])
+
+    def removal(self) -> Scene:
+        added = ("add", "MAP", "JOURNAL", "--edit", 1, self.object)
+        return self.make_scene("remove", "MAP", "JOURNAL", "--edit", 2, "--slot", 0, before=[added])
+
+    def reinstatement(self) -> Scene:
+        added = ("add", "MAP", "JOURNAL", "--edit", 1, self.object)
+        gone = ("remove", "MAP", "JOURNAL", "--edit", 2, "--slot", 0)
+        again = ("reinstate", "MAP", "JOURNAL", "--edit", 3, "--slot", 0)
+        return self.make_scene(*again, before=[added, gone])
+
+
+class Cuts(CutTest):
+    """The process is ended at each of its system calls."""
+
+    def assert_old_or_new(self, scene: Scene, look: Callable[[Path], Pair]) -> bool:
+        """Whether it is the new pair that can be seen; it must be one of the two."""
+        seen = scene.look_with(look)
+        self.assertIn(seen, (scene.old, scene.new), look.__name__)
+        return seen == scene.new
+
+    def cut_everywhere(self, scene: Scene, counted: Sequence[str], event: Event) -> List[bool]:
+        """Cuts at each counted call; tells for each whether the new pair was seen then."""
+        found = []
+        for chosen in range(1, scene.calls[tuple(counted)] + 1):
+            ended = scene.run(chosen, counted, event)
+            self.assertTrue(ended.cut, ended.wrote)
+            seen = {self.assert_old_or_new(scene, look) for look in LOOKS}
+            self.assertEqual(len(seen), 1, f"call {chosen}: two looks, two pairs")
+            self.assert_repeat_is_safe(scene)
+            found.append(seen.pop())
+        return found
+
+    def assert_repeat_is_safe(self, scene: Scene) -> None:
+        """The command given again is done or done before, and leaves exactly the new pair
+        and nothing beside it."""
+        scene.copy(scene.work, scene.look)
+        ended = run_here(*scene.arguments(scene.look, scene.command))
+        self.assertEqual(ended.code, 0, ended.wrote)
+        self.assertEqual(scene.pair_in(scene.look), scene.new)
+        names = sorted(path.name for path in scene.look.rglob("*"))
+        self.assertEqual(names, ["city.journal", "city.ocd", "maps"])
+
+    def assert_one_turn(self, found: List[bool]) -> None:
+        """The old pair up to some call, the new one from then on."""
+        self.assertIn(True, found)
+        self.assertIn(False, found)
+        self.assertEqual(found, sorted(found))
+
+    def test_first_add_at_every_call(self) -> None:
+        scene = self.first_add()
+        self.assert_one_turn(self.cut_everywhere(scene, ALL, cut))
+
+    def test_second_add(self) -> None:
+        self.assert_one_turn(self.cut_everywhere(self.second_add(), CHANGING, cut))
+
+    def test_removal(self) -> None:
+        self.assert_one_turn(self.cut_everywhere(self.removal(), CHANGING, cut))
+
+    def test_reinstatement(self) -> None:
+        self.assert_one_turn(self.cut_everywhere(self.reinstatement(), CHANGING, cut))
+
+    def test_in_the_middle_of_writes(self) -> None:
+        self.assert_one_turn(self.cut_everywhere(self.first_add(), CHANGING, cut_in_the_middle))
+
+    def test_the_map_alone_stays_accepted(self) -> None:
+        """Even a copy of the map without the files beside it is accepted."""
+        scene = self.first_add()
+        for chosen in range(1, scene.calls[CHANGING] + 1):
+            scene.run(chosen, CHANGING, cut)
+            alone = self.folder / "alone.ocd"
+            shutil.copy(scene.work / "maps" / "city.ocd", alone)
+            self.assertEqual(run_here("check", alone).code, 0)
+
+    def test_cuts_while_finishing(self) -> None:
+        """A command that finishes a cut edit is itself cut at each call."""
+        scene = self.first_add()
+        for chosen in range(1, scene.calls[CHANGING] + 1):
+            scene.run(chosen, CHANGING, cut)
+            new = self.assert_old_or_new(scene, without_writing)
+            if new:
+                self.cut_the_finishing(scene, ["check", "MAP"])
+                self.cut_the_finishing(scene, ["journal", "JOURNAL"])
+
+    def cut_the_finishing(self, scene: Scene, command: Sequence[object]) -> None:
+        kept = self.folder / "kept"
+        scene.copy(scene.work, kept)
+        for chosen in range(1, 100):
+            scene.copy(kept, scene.work)
+            files = CountingFiles(CHANGING, chosen, cut_in_the_middle)
+            ended = run_in_child(scene.arguments(scene.work, command), files)
+            for look in (journal_then_map, without_writing):
+                self.assertEqual(scene.look_with(look), scene.new)
+            self.assert_repeat_is_safe(scene)
+            if not ended.cut:
+                self.assertEqual(ended.code, 0, ended.wrote)
+                break
+        else:
+            self.fail("the command never came to its end")
+        scene.copy(kept, scene.work)
+
+    def test_the_real_commands_afterwards(self) -> None:
+        """What a user sees who types a command after the cut."""
+        scene = self.first_add()
+        for chosen in range(1, scene.calls[CHANGING] + 1, 3):
+            scene.run(chosen, CHANGING, cut)
+            new = scene.look_with(map_then_journal) == scene.new
+            listed = run("journal", scene.work / "city.journal", "--json").json()
+            shown = run("show", scene.work / "maps" / "city.ocd", "--json").json()
+            self.assertEqual((listed["used"], shown["live"]), (1, 1) if new else (0, 0))
+
+    def test_new(self) -> None:
+        """A cut while a pair is made leaves it whole, or leaves nothing but empty files, and
+        the command can be given again."""
+        command = ["new", self.map, "--journal", self.journal, "--records", 4]
+        calls = count_calls(command, CHANGING)
+        for chosen in range(1, calls + 1):
+            for path in self.folder.glob("city*"):
+                path.unlink()
+            ended = run_in_child(command, CountingFiles(CHANGING, chosen, cut_in_the_middle))
+            self.assertTrue(ended.cut)
+            again = run_here(*command)
+            self.assertIn(again.code, (0, 2))
+            if again.code == 2:
+                self.assertIn("exists already", again.wrote)
+            seen = [Store().read(Wanted(str(path), MOST)) for path in (self.map, self.journal)]
+            self.assertEqual(seen, [layout.empty_map(8), bytes(64)])
+            added = run_here("add", self.map, self.journal, "--edit", 1, self.object)
+            self.assertEqual(added.code, 0, added.wrote)
+            self.assertEqual(self.names(), ["bridge.object", "city.journal", "city.ocd"])
+
+
+class RandomCuts(FolderTest):
+    """Real commands, ended by SIGKILL at times of no choosing."""
+
+    def test_kill_at_any_time(self) -> None:
+        self.make_pair(records=64)
+        seed = random.randrange(2**32)
+        chance = random.Random(seed)
+        started = time.monotonic()
+        self.assertEqual(self.add_bridge(1).code, 0)
+        longest = 1.2 * (time.monotonic() - started)
+        for edit in range(2, 32):
+            with self.subTest(seed=seed, edit=edit):
+                words = command_line("add", self.map, self.journal, "--edit", edit, self.object)
+                child = subprocess.Popen(
+                    words, env=environment(), stdout=subprocess.DEVNULL, stderr=subprocess.DEVNULL
+                )
+                time.sleep(chance.uniform(0, longest))
+                child.kill()
+                child.wait()
+                self.assert_pair_agrees(edit)
+
+    def assert_pair_agrees(self, edit: int) -> None:
+        """As many objects as records; then the edit is given again, and both have it."""
+        journal = layout.read_journal(Store().read(Wanted(str(self.journal), MOST)))
+        slots = list(layout.all_slots(Store().read(Wanted(str(self.map), MOST))))
+        live = sum(slot.state == "live" for slot in slots)
+        self.assertEqual(live, len(journal))
+        self.assertIn(len(journal), (edit - 1, edit))
+        self.assertEqual(
+            run_here("add", self.map, self.journal, "--edit", edit, self.object).code, 0
+        )
+
+
+class FailingCalls(CutTest):
+    """The disk is full at each of the system calls in turn."""
+
+    def test_what_is_said_is_true(self) -> None:
+        scene = self.first_add()
+        for chosen in range(1, scene.calls[CHANGING] + 1):
+            ended = scene.run(chosen, CHANGING, no_space)
+            self.assertEqual((ended.cut, ended.code), (False, 2), ended.wrote)
+            done = "the edit is done and kept in" in ended.wrote
+            self.assertNotIn("Traceback", ended.wrote)
+            for look in LOOKS:
+                seen = scene.look_with(look)
+                self.assertEqual(seen, scene.new if done else scene.old, ended.wrote)
+
+    def test_a_full_disk_while_finishing(self) -> None:
+        """A reader sees the new pair though it cannot be finished; an editor says why not."""
+        scene = self.first_add()
+        scene.run(2, ["rename"], cut_after)
+        files = CountingFiles(["write"], 1, no_space)
+        ended = run_in_child(scene.arguments(scene.work, ["show", "MAP", "--json"]), files)
+        self.assertEqual(ended.code, 0)
+        self.assertIn('"live": 1', ended.wrote)
+        files = CountingFiles(["write"], 1, no_space)
+        ended = run_in_child(scene.arguments(scene.work, scene.command), files)
+        self.assertEqual(ended.code, 2)
+        self.assertIn("No space left on device", ended.wrote)
+
+
+class Waiting(CutTest):
+    """A pair that waits to be finished, and what people do with files meanwhile."""
+
+    def setUp(self) -> None:
+        super().setUp()
+        self.scene = self.first_add()
+        self.scene.run(2, ["rename"], cut_after)  # the note's rename is the first
+        self.map = self.scene.work / "maps" / "city.ocd"
+        self.journal = self.scene.work / "city.journal"
+        self.pending = Path(f"{self.map}{PENDING}")
+        self.note = Path(f"{self.journal}{PARTNER}")
+
+    def pair(self) -> Pair:
+        return self.map.read_bytes(), self.journal.read_bytes()
+
+    def read(self, path: Path) -> bytes:
+        return Store(wait=0).read(Wanted(str(path), MOST))
+
+    def assert_problem(self, words: str, path: Path) -> None:
+        before = self.pair()
+        with self.assertRaisesRegex(FileProblem, words):
+            self.read(path)
+        self.assertEqual(self.pair(), before)
+
+    def test_it_waits(self) -> None:
+        self.assertEqual(self.pair(), self.scene.old)
+        self.assertTrue(self.note.exists())
+
+    def test_each_read_command_finishes(self) -> None:
+        window = (0, 0, 9, 9)
+        commands = (("check", "MAP"), ("show", "MAP"), ("search", "MAP", *window))
+        for command in (*commands, ("journal", "JOURNAL")):
+            self.scene.copy(self.scene.work, self.scene.look)
+            ended = run_here(*self.scene.arguments(self.scene.look, command))
+            self.assertEqual(ended.code, 0, ended.wrote)
+            self.assertEqual(self.scene.pair_in(self.scene.look), self.scene.new)
+
+    def test_a_reader_does_not_wait_for_readers(self) -> None:
+        with open(self.map, "rb") as other:
+            fcntl.flock(other, fcntl.LOCK_SH)
+            self.assertEqual(self.read(self.map), self.scene.new[0])
+            self.assertEqual(self.read(self.journal), self.scene.new[1])
+            self.assertEqual(self.pair(), self.scene.old)
+
+    def test_the_folder_gets_another_name(self) -> None:
+        moved = self.folder / "moved"
+        self.scene.work.rename(moved)
+        self.assertEqual(journal_then_map(moved), self.scene.new)
+        self.assertEqual(self.scene.pair_in(moved), self.scene.new)
+
+    def test_links_and_relative_paths(self) -> None:
+        link = self.folder / "link.ocd"
+        link.symlink_to(os.path.join("work", "maps", "city.ocd"))
+        os.chdir(self.folder)
+        self.addCleanup(os.chdir, "/")
+        self.assertEqual(Store().read(Wanted("link.ocd", MOST)), self.scene.new[0])
+        self.assertEqual(self.pair(), self.scene.new)
+        self.assertTrue(link.is_symlink())
+
+    def test_the_map_is_changed_by_something_else(self) -> None:
+        self.map.write_bytes(layout.empty_map(6))
+        self.assert_problem("something else has changed it", self.map)
+
+    def test_the_map_is_cut_off(self) -> None:
+        self.map.write_bytes(b"")
+        self.assert_problem("something else has changed it", self.map)
+
+    def test_the_journal_is_changed_by_something_else(self) -> None:
+        self.journal.write_bytes(bytes(32))
+        self.assert_problem("something else has changed it", self.journal)
+        ended = run_here("remove", self.map, self.journal, "--edit", 9, "--slot", 0)
+        self.assertEqual(ended.code, 2)
+        self.assertIn("has to be finished first", ended.wrote)
+        self.assertEqual(self.map.read_bytes(), self.scene.old[0])
+
+    def test_the_journal_is_away(self) -> None:
+        self.journal.rename(self.folder / "elsewhere")
+        self.assertEqual(self.read(self.map), self.scene.new[0])
+        self.assertEqual(self.map.read_bytes(), self.scene.old[0])
+        (self.folder / "elsewhere").rename(self.journal)
+        self.assertEqual(self.read(self.map), self.scene.new[0])
+        self.assertEqual(self.pair(), self.scene.new)
+
+    def test_the_map_is_away(self) -> None:
+        self.map.rename(self.folder / "elsewhere")
+        with self.assertRaisesRegex(FileProblem, "cannot be found"):
+            self.read(self.journal)
+
+    def test_the_pending_file_is_damaged(self) -> None:
+        data = bytearray(self.pending.read_bytes())
+        data[len(data) // 2] ^= 1
+        self.pending.write_bytes(data)
+        self.assert_problem("damaged", self.map)
+        self.assert_problem("damaged", self.journal)
+        self.pending.write_bytes(b"")
+        self.assert_problem("damaged", self.map)
+
+    def test_the_note_is_missing(self) -> None:
+        """Without the note the journal is not written to: the pending file could be anyone's."""
+        self.note.unlink()
+        self.assertEqual(self.read(self.map), self.scene.new[0])
+        self.assertEqual(self.pair(), self.scene.old)
+
+    def test_a_stranger_is_not_written(self) -> None:
+        """A pending file that names a file of someone else does not reach it."""
+        victim = self.folder / "victim"
+        victim.write_bytes(b"mine")
+        changes = (
+            change_between(str(self.map), self.scene.old[0], self.scene.old[0]),
+            change_between(str(victim), b"mine", b"yours"),
+        )
+        self.pending.write_bytes(encode_pending(Pending(changes)))
+        self.read(self.map)
+        ended = run_here(*self.scene.arguments(self.scene.work, self.scene.command))
+        self.assertEqual(ended.code, 2)
+        self.assertEqual(victim.read_bytes(), b"mine")
+
+    def test_another_map_with_the_same_journal(self) -> None:
+        """Editing a second map with this journal finishes the first map's edit before."""
+        other = self.folder / "other.ocd"
+        other.write_bytes(self.scene.new[0])
+        ended = run_here("remove", other, self.journal, "--edit", 2, "--slot", 0)
+        self.assertEqual(ended.code, 0, ended.wrote)
+        self.assertEqual(self.map.read_bytes(), self.scene.new[0])
+        records = layout.read_journal(self.journal.read_bytes())
+        self.assertEqual(records, [(1, "add", 0), (2, "remove", 0)])
+
+    def test_another_journal_with_the_same_map(self) -> None:
+        other = self.folder / "other.journal"
+        other.write_bytes(bytes(64))
+        ended = run_here("remove", self.map, other, "--edit", 1, "--slot", 0)
+        self.assertEqual(ended.code, 0, ended.wrote)
+        self.assertEqual(self.journal.read_bytes(), self.scene.new[1])
+        self.assertEqual(layout.read_journal(other.read_bytes()), [(1, "remove", 0)])
+
+    def test_hard_links(self) -> None:
+        """A second name: read as it will be, but not written."""
+        os.link(self.map, self.folder / "backup.ocd")
+        self.assertEqual(self.read(self.map), self.scene.new[0])
+        self.assertEqual(self.pair(), self.scene.old)
+
+
+class Unfinished(CutTest):
+    """What an edit leaves that was cut before it was done."""
+
+    def test_the_next_edit_clears_it_away(self) -> None:
+        scene = self.first_add()
+        for chosen in range(1, scene.calls[CHANGING] + 1):
+            scene.run(chosen, CHANGING, cut)
+            left = [path.name for path in scene.work.rglob("*taffrail*")]
+            if any(name.endswith(PENDING) for name in left):
+                return
+            an_edit(scene.work)
+            self.assertEqual([path.name for path in scene.work.rglob("*taffrail*")], [])
+        self.fail("never done")
+
+    def test_a_note_that_is_left_is_no_hindrance(self) -> None:
+        scene = self.first_add()
+        scene.run(1, ["rename"], cut_after)
+        self.assertTrue((scene.work / f"city.journal{PARTNER}").exists())
+        self.assertEqual(scene.look_with(journal_then_map), scene.old)
+
+
+class ManyAtOnce(FolderTest):
+    """Processes that edit one map at the same time lose nothing."""
+
+    def start(self, work: Callable[[], None]) -> int:
+        child = os.fork()
+        if child == 0:
+            code = 1
+            try:
+                work()
+                code = 0
+            finally:
+                os._exit(code)
+        return child
+
+    def assert_all_end_well(self, children: Sequence[int]) -> None:
+        for child in children:
+            _, status = os.waitpid(child, 0)
+            self.assertEqual(status, 0)
+
+    def adds(self, first: int, count: int) -> Callable[[], None]:
+        def work() -> None:
+            for edit in range(first, first + count):
+                ended = run_here("add", self.map, self.journal, "--edit", edit, self.object)
+                assert ended.code == 0, ended.wrote
+
+        return work
+
+    def looks(self, count: int) -> Callable[[], None]:
+        def work() -> None:
+            for _ in range(count):
+                for words in (["check", self.map], ["journal", self.journal]):
+                    ended = run_here(*words)
+                    assert ended.code == 0, ended.wrote
+
+        return work
+
+    def assert_complete(self, edits: int) -> None:
+        records = layout.read_journal(self.journal.read_bytes())
+        self.assertEqual(sorted(record.edit for record in records), list(range(1, edits + 1)))
+        self.assertEqual(sorted(record.slot for record in records), list(range(edits)))
+        slots = list(layout.all_slots(self.map.read_bytes()))
+        self.assertEqual(sum(slot.state == "live" for slot in slots), edits)
+        self.assertEqual(self.names(), ["bridge.object", "city.journal", "city.ocd"])
+
+    def test_two_editors_and_a_reader(self) -> None:
+        self.make_pair(records=100)
+        works = [self.adds(1, 50), self.adds(51, 50), self.looks(50)]
+        self.assert_all_end_well([self.start(work) for work in works])
+        self.assert_complete(100)
+
+    def test_two_real_commands(self) -> None:
+        self.make_pair(records=20)
+        for edit in range(1, 20, 2):
+            both = [
+                subprocess.Popen(
+                    command_line("add", self.map, self.journal, "--edit", number, self.object),
+                    env=environment(),
+                    stdout=subprocess.DEVNULL,
+                )
+                for number in (edit, edit + 1)
+            ]
+            self.assertEqual([child.wait() for child in both], [0, 0])
+        self.assert_complete(20)
+
+    def test_the_same_edit_twice_at_once(self) -> None:
+        """Two phones send one edit: it is done once."""
+        self.make_pair(records=20)
+        for edit in range(1, 11):
+            self.assert_all_end_well([self.start(self.adds(edit, 1)) for _ in range(2)])
+        self.assert_complete(10)
+
+    def test_two_that_make_the_same_files(self) -> None:
+        """One of them makes the pair, the other finds it there."""
+        for count in range(10):
+            names = (self.folder / f"{count}.ocd", self.folder / f"{count}.journal")
+            codes = []
+
+            def work() -> None:
+                ended = run_here("new", names[0], "--journal", names[1], "--records", 4)
+                os._exit(ended.code)
+
+            children = [self.start(work) for _ in range(2)]
+            for child in children:
+                codes.append(os.WEXITSTATUS(os.waitpid(child, 0)[1]))
+            self.assertEqual(sorted(codes), [0, 2])
+            self.assertEqual([path.stat().st_size for path in names], [48, 64])
+
+    def test_editors_that_are_killed(self) -> None:
+        """One editor goes on while others are ended in the middle of their work."""
+        self.make_pair(records=64)
+        steady = self.start(self.adds(1, 30))
+        chance = random.Random(7)
+        for _ in range(15):
+            other = self.start(self.adds(31, 1))
+            time.sleep(chance.uniform(0, 0.05))
+            os.kill(other, 9)
+            os.waitpid(other, 0)
+        self.assert_all_end_well([steady])
+        self.adds(31, 1)()
+        self.assert_complete(31)
+
+    def test_one_journal_for_two_maps(self) -> None:
+        """Locks are taken in one order, so nobody waits for ever."""
+        self.make_pair(records=64)
+        self.assertEqual(self.add_bridge(1).code, 0)
+        other = self.folder / "another.ocd"
+        shutil.copy(self.map, other)
+
+        def toggles(path: Path, first: int) -> Callable[[], None]:
+            def work() -> None:
+                for edit in range(first, first + 20):
+                    kind = "remove" if (edit - first) % 2 == 0 else "reinstate"
+                    ended = run_here(kind, path, self.journal, "--edit", edit, "--slot", 0)
+                    assert ended.code == 0, ended.wrote
+
+            return work
+
+        self.assert_all_end_well([self.start(toggles(self.map, 2)), self.start(toggles(other, 22))])
+        self.assertEqual(len(layout.read_journal(self.journal.read_bytes())), 41)
+
+
+class Saving(FolderTest):
+    def test_files_keep_what_they_are(self) -> None:
+        self.make_pair()
+        self.map.chmod(0o640)
+        link = self.folder / "link.ocd"
+        link.symlink_to(self.map.name)
+        before = self.map.stat()
+        ended = run_here("add", link, self.journal, "--edit", 1, self.object)
+        self.assertEqual(ended.code, 0, ended.wrote)
+        after = self.map.stat()
+        self.assertTrue(link.is_symlink())
+        self.assertEqual((after.st_ino, after.st_mode), (before.st_ino, before.st_mode))
+
+    def test_a_file_never_gets_shorter(self) -> None:
+        self.map.write_bytes(b"four")
+        with Store().edit(Wanted(str(self.map), MOST)) as group:
+            with self.assertRaisesRegex(ValueError, "shorter"):
+                group.save(b"two")
+        self.assertEqual(self.map.read_bytes(), b"four")
+
+    def test_a_file_that_was_not_read_to_its_end(self) -> None:
+        self.map.write_bytes(b"longer")
+        with Store().edit(Wanted(str(self.map), 3)) as group:
+            with self.assertRaisesRegex(FileProblem, "too long"):
+                group.save(b"other")
+        self.assertEqual(self.map.read_bytes(), b"longer")
+
+    def test_two_saves_of_one_edit(self) -> None:
+        self.map.write_bytes(b"one")
+        with Store().edit(Wanted(str(self.map), MOST)) as group:
+            group.save(b"two")
+            group.save(b"three")
+        self.assertEqual(self.map.read_bytes(), b"three")
+
+    def test_pieces(self) -> None:
+        old = bytes(10_000)
+        new = bytearray(old) + b"tail"
+        new[5_000] = 1
+        change = change_between("x", old, bytes(new))
+        self.assertEqual(change.pieces, ((5_000, b"\1"), (10_000, b"tail")))
+        self.assertEqual(change.length, 10_004)
+        self.assertEqual(change_between("x", old, old).pieces, ())
+
+    def test_objects_of_every_size(self) -> None:
+        """Pieces of any length come back as they were."""
+        self.make_pair(version=8, records=8)
+        for edit, count in enumerate((1, 2, 600, 32_768), start=1):
+            self.object.write_bytes(object_bytes([(edit, edit)] * count))
+            self.assertEqual(self.add_bridge(edit).code, 0)
+        self.assertEqual(run("check", self.map).code, 0)
+
+
+if __name__ == "__main__":
+    unittest.main()
