@@ -127,7 +127,7 @@ fn judge_header(m: &[u8], used: usize) -> Judged
             place: 0,
         };
     }
-    if 16777216 < used {
+    if Header::LIMIT < used {
         return Judged::Bad {
             number: 1,
             place: 0,
@@ -214,7 +214,7 @@ fn judge_slots(m: &[u8], used: usize, index: &[u32], n: usize) -> Judged
     requires { ⌜ (headerSize ≤ used) × (used ≤ mapLimit) × (used ≤ length (now m)) × (used ≤ length (now index) * indexBlockSize) × (walked (indexRule (now m)) (now m) used ≡ Blocks n) × Table indexHead indexBlockSize (now m) n (now index) ⌝ }
     ensures { λ r. ⌜ r ≡ slotsJudged (now (m .entry)) used n ⌝ }
 {
-    let version = u16_at(m, 4);
+    let version = u16_at(m, Header::VERSION);
     let mut at = u32_at(m, Header::INDEX) as usize + 4;
     let mut s = 0;
     while s < 256 * n {
@@ -320,7 +320,7 @@ fn judge_symbols(m: &[u8], used: usize, index: &[u32], n: usize) -> Judged
     requires { ⌜ (headerSize ≤ used) × (used ≤ mapLimit) × (used ≤ length (now m)) × (used ≤ length (now index) * indexBlockSize) × Table indexHead indexBlockSize (now m) n (now index) ⌝ }
     ensures { λ r. ⌜ r ≡ symbolsJudged (now (m .entry)) used n ⌝ }
 {
-    let mut t = [0u32; 16321];
+    let mut t = [0u32; SymbolBlock::BUCKETS];
     let w = walk_chain(m, used, symbol_kind(), index, &mut t);
     match w {
         Walk::Blocks(k) => judge_entries(m, used, index, n, k),
@@ -387,6 +387,6 @@ pub fn examine(m: &[u8], used: usize, index: &mut [u32]) -> Verdict
 pub fn check(m: &[u8], used: usize) -> Verdict
     ensures { λ r. ⌜ r ≡ verdict (now (m .entry)) used ⌝ }
 {
-    let mut index = [0u32; 2729];
+    let mut index = [0u32; IndexBlock::BUCKETS];
     examine(m, used, &mut index)
 }

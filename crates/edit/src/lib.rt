@@ -183,7 +183,7 @@ fn sym_to_reinstate(m: &[u8], used: usize, index: &[u32], t: Slot) -> NewSym
         len: t.len,
         sym,
     };
-    if slot_good(m, used, u16_at(m, 4), index, revived) {
+    if slot_good(m, used, u16_at(m, Header::VERSION), index, revived) {
         NewSym::Write(sym)
     } else {
         NewSym::None
@@ -289,8 +289,8 @@ fn change(map: &mut [u8], used: usize, journal: &mut [u8], edit: u32, kind: u32,
     ensures maps { λ r. ⌜ now (map .exit) ≡ changed (now (map .entry)) used (now (journal .entry)) edit kind at .map ⌝ }
     ensures journals { λ r. ⌜ now (journal .exit) ≡ changed (now (map .entry)) used (now (journal .entry)) edit kind at .journal ⌝ }
 {
-    let mut index = [0u32; 2729];
-    let mut order = [0u32; 2728];
+    let mut index = [0u32; IndexBlock::BUCKETS];
+    let mut order = [0u32; IndexBlock::MOST];
     let start = begin(map, used, journal, edit, &mut index, &mut order);
     match start {
         Start::Refused { number, place } => Answer::Refused { number, place },
@@ -363,7 +363,11 @@ fn offered_good(version: u16, o: &[u8]) -> bool
 fn pair_limit(version: u16) -> usize
     ensures { λ r. ⌜ r ≡ pairLimit version ⌝ }
 {
-    if version == 8 { 32768 } else { 8187 }
+    if version == 8 {
+        ObjectHeader::MOST_PAIRS_8 as usize
+    } else {
+        ObjectHeader::MOST_PAIRS
+    }
 }
 
 // The slot of a well-formed object that is stored at a place.
@@ -394,7 +398,7 @@ fn first_free(m: &[u8], used: usize, n: usize) -> usize
     let mut at = u32_at(m, Header::INDEX) as usize + 4;
     let mut s = 0;
     while s < 256 * n {
-        if u16_at(m, at + 20) == 0 {
+        if u16_at(m, at + Slot::LEN) == 0 {
             return s;
         }
         at = next_cell(m, at, s, Slot::SIZE);
@@ -410,7 +414,7 @@ fn is_object(m: &[u8], used: usize, at: usize, o: &[u8]) -> bool
 {
     let t = Slot::at(m, at);
     let start = t.position as usize;
-    let bytes = bytes_in(u16_at(m, 4), t.len);
+    let bytes = bytes_in(u16_at(m, Header::VERSION), t.len);
     if start < Header::SIZE {
         return false;
     }
@@ -498,7 +502,7 @@ fn write_added(map: &mut [u8], used: usize, order: &[u32], n: usize, s: usize, o
     requires { ⌜ (verdict (now map) used ≡ Accepted n) × Ordered indexHead (now map) n (now order) × (n ≤ length (now order)) × (s ≡ freeSlot (now map) n) × (offeredGood (versionOf (now map)) (now o) ≡ true) × (newLength (now map) used n (now o) ≤ mapLimit) × (newLength (now map) used n (now o) ≤ length (now map)) ⌝ }
     ensures { λ r. ⌜ now (map .exit) ≡ addedMap (now (map .entry)) used n (now (o .entry)) ⌝ }
 {
-    let t = slot_for(u16_at(map, 4), o, used as u32);
+    let t = slot_for(u16_at(map, Header::VERSION), o, used as u32);
     if s < 256 * n {
         write_in_slot(map, used, o, place_of(order, s), t);
     } else {
@@ -533,7 +537,7 @@ fn add_new(
     ensures maps { λ r. ⌜ now (map .exit) ≡ freshAdd (now (map .entry)) used (now (journal .entry)) edit (now (o .entry)) n .map ⌝ }
     ensures journals { λ r. ⌜ now (journal .exit) ≡ freshAdd (now (map .entry)) used (now (journal .entry)) edit (now (o .entry)) n .journal ⌝ }
 {
-    if !offered_good(u16_at(map, 4), o) {
+    if !offered_good(u16_at(map, Header::VERSION), o) {
         return Answer::Refused {
             number: 10,
             place: 0,
@@ -541,7 +545,7 @@ fn add_new(
     }
     let s = first_free(map, used, n);
     let length = new_length(used, n, s, o);
-    if 16777216 < length {
+    if Header::LIMIT < length {
         return Answer::Refused {
             number: 11,
             place: 0,
@@ -579,8 +583,8 @@ pub fn add(map: &mut [u8], used: usize, journal: &mut [u8], edit: u32, o: &[u8])
     ensures maps { λ r. ⌜ now (map .exit) ≡ added (now (map .entry)) used (now (journal .entry)) edit (now (o .entry)) .map ⌝ }
     ensures journals { λ r. ⌜ now (journal .exit) ≡ added (now (map .entry)) used (now (journal .entry)) edit (now (o .entry)) .journal ⌝ }
 {
-    let mut index = [0u32; 2729];
-    let mut order = [0u32; 2728];
+    let mut index = [0u32; IndexBlock::BUCKETS];
+    let mut order = [0u32; IndexBlock::MOST];
     let start = begin(map, used, journal, edit, &mut index, &mut order);
     match start {
         Start::Refused { number, place } => Answer::Refused { number, place },

@@ -91,7 +91,7 @@ pub fn checked_length(m: &[u8], used: usize) -> usize
     if used < Header::SIZE {
         return 0;
     }
-    if 16777216 < used {
+    if Header::LIMIT < used {
         return 0;
     }
     if m.len() < used {

@@ -134,7 +134,7 @@ fn well_formed(j: &[u8], k: usize, m: &[u8], order: &[u32], n: usize) -> bool
     requires { ⌜ (k ≡ inUse (now j)) × Reach (now m) (now order) n ⌝ }
     ensures { λ r. ⌜ r ≡ wellFormed (now (j .entry)) (now (m .entry)) n ⌝ }
 {
-    if 65536 < j.len() {
+    if JournalRecord::LIMIT < j.len() {
         return false;
     }
     if j.len() % JournalRecord::SIZE != 0 {

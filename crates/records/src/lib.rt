@@ -54,6 +54,10 @@ pub struct Header {
 
 impl Header {
     pub const SIZE: usize = 48;
+    // A map is at most so long.
+    pub const LIMIT: usize = 16777216;
+    // Where the version stands.
+    pub const VERSION: usize = 4;
 
     pub const MARK: u16 = 3245;
     // Where the first link of each chain is stored.
@@ -73,7 +77,7 @@ impl Header {
         Header {
             mark: u16_at(m, 0),
             section: u16_at(m, 2),
-            version: u16_at(m, 4),
+            version: u16_at(m, Header::VERSION),
             setup: Part::at(m, Header::SETUP),
             info: Part::at(m, Header::INFO),
         }
@@ -101,6 +105,10 @@ pub struct IndexBlock {
 
 impl IndexBlock {
     pub const SIZE: usize = 6148;
+    // The largest map has so many, and a table of them so many buckets.
+    pub const MOST: usize = 2728;
+
+    pub const BUCKETS: usize = 2729;
 
     pub fn new(at: usize) -> IndexBlock
         ensures { λ r. ⌜ r .at ≡ at ⌝ }
@@ -124,6 +132,8 @@ pub struct SymbolBlock {
 
 impl SymbolBlock {
     pub const SIZE: usize = 1028;
+    // A table of them has so many buckets.
+    pub const BUCKETS: usize = 16321;
 
     pub const ENTRY: usize = 4;
 
@@ -162,7 +172,9 @@ pub struct Found {
 
 impl Slot {
     pub const SIZE: usize = 24;
-    // Where Sym stands in a slot.
+    // Where Len and Sym stand in a slot.
+    pub const LEN: usize = 20;
+
     pub const SYM: usize = 22;
 
     // The slot at a place.
@@ -176,8 +188,8 @@ impl Slot {
             right: u32_at(m, at + 8),
             top: u32_at(m, at + 12),
             position: u32_at(m, at + 16),
-            len: u16_at(m, at + 20),
-            sym: u16_at(m, at + 22),
+            len: u16_at(m, at + Slot::LEN),
+            sym: u16_at(m, at + Slot::SYM),
         }
     }
 
@@ -191,8 +203,8 @@ impl Slot {
         put_u32_at(part, 8, self.right);
         put_u32_at(part, 12, self.top);
         put_u32_at(part, 16, self.position);
-        put_u16_at(part, 20, self.len);
-        put_u16_at(part, 22, self.sym);
+        put_u16_at(part, Slot::LEN, self.len);
+        put_u16_at(part, Slot::SYM, self.sym);
     }
 
     // Free, erased or live.
@@ -228,7 +240,7 @@ pub fn len_good(version: u16, len: u16) -> bool
     ensures { λ r. ⌜ r ≡ lenGood version len ⌝ }
 {
     if version == 8 {
-        return len <= 32768;
+        return len <= ObjectHeader::MOST_PAIRS_8;
     }
     if (len as usize) < ObjectHeader::SIZE + ObjectHeader::PAIR {
         return false;
@@ -282,6 +294,10 @@ impl ObjectHeader {
     pub const SIZE: usize = 32;
     // A coordinate pair.
     pub const PAIR: usize = 8;
+    // How many pairs an object may have in 8; and an added one in 6 and 7.
+    pub const MOST_PAIRS_8: u16 = 32768;
+
+    pub const MOST_PAIRS: usize = 8187;
 
     // The header of the object that starts a part.
     pub fn of(part: &[u8]) -> ObjectHeader
@@ -477,6 +493,9 @@ pub struct JournalRecord {
 
 impl JournalRecord {
     pub const SIZE: usize = 16;
+
+    // A journal is at most so long.
+    pub const LIMIT: usize = 65536;
 
     pub const ADD: u32 = 1;
 

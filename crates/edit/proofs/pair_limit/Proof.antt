@@ -1,5 +1,6 @@
 -- `edit::pair_limit` meets its contract: the limit goes by whether the version is 8. Assumes nothing.
 use borrow.Author.Tests.{eq-eqb, ne-eqb}
+use borrow.Author.Needs.{needs}
 use Rattle.edit.proofs.pair_limit.Statement.{statement}
 use Rattle.edit.proofs.pair_limit.Tie as tie
 
@@ -10,4 +11,4 @@ returns-2 : tie.Need-returns-2
 returns-2 c = rw (ne-eqb _ _ (c .if1 .left))
 
 pub pair-limit-spec : {M : Type 1} → statement M
-pair-limit-spec = tie.close (tie.spec returns returns-2)
+pair-limit-spec = tie.close (tie.spec (λ c. search needs) returns returns-2)
