@@ -5,6 +5,7 @@
 --     Verdicts     the parts of the answer
 --     Telling      what a good slot and a good symbol record tell
 --     Accepting    what an accepted map tells, and what shows one
+--     Meets        an accepted map meets document 01, and a map that meets it is accepted
 --     Frame        what a change of a map leaves
 --     Writes       the writes of the edits, as such changes
 pub mod Judging
@@ -13,5 +14,6 @@ pub mod Looking
 pub mod Telling
 pub mod Verdicts
 pub mod Accepting
+pub mod Meets
 pub mod Frame
 pub mod Writes

@@ -40,14 +40,10 @@ use Rattle.accept.specs.Verdicts.{headerJudged, verdict}
 use Rattle.accept.proofs.Accepting.{accepted-tells}
 use Rattle.find.specs.declared.Answer.{Answer}
 use Rattle.find.specs.declared.Answer.the-variants.{Found, Short, Refused}
-use Rattle.find.specs.Searches.{numberOf, countOf, checkedLength, wantedAt, liveIn, slotsFor, found, answerFor, answerOf, listFor, listAfter}
+use Rattle.find.specs.Searches.{numberOf, countOf, checkedLength, wantedAt, liveIn, slotsFor, found, answerFor, answerOf, listFor, listAfter, In}
 use Rattle.find.proofs.Selected.{sel-in, sel-ascends, sel-at}
 
 -- ---- which slots are listed
-
--- x stands in l
-abbrev pub In : ℕ → List ℕ → Type 0
-In x l = (i : ℕ) × (i < length l) × (getD l i 0 ≡ x)
 
 pub in-list : (m : List ℕ) (n : ℕ) (w : Window) (s : ℕ) → In s (found m n w) ↔ ((s < 256 * n) × (liveIn m w s ≡ true))
 unfolding slotsFor

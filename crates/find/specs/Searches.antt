@@ -6,12 +6,14 @@
 --     slotsFor test n            the slots of n index blocks that pass a test, ascending, each once
 --     found m n w                those that the search lists: the live ones that meet the window
 --     answerFor, answerOf        1 to 7 as the check has them; 8: left > right or bottom > top; 9: the list is shorter than the count
+--     In x l                     x stands in the list l
 --     listAfter m used w l       what the lent list holds afterwards: the slots found in its first entries and the rest as it was; after a refusal all as it was
-use Prim.Native.Nat.{ℕ, _*_}
+use Prim.Native.Nat.{ℕ, _*_, _<_}
 use mathlib.Core.Bool.{Bool, cond, _&&_}
+use mathlib.Core.Path.{_≡_}
 use mathlib.Core.List.{List}
 use lib.Dec.{ltb}
-use lib.ListN.{length}
+use lib.ListN.{length, getD}
 use lib.Seq.{sets}
 use Rattle.numbers.specs.Below.{sel}
 use Rattle.records.specs.declared.Window.{Window}
@@ -75,3 +77,6 @@ listFor (Refused n p) hits l = l
 
 unfoldable pub listAfter : List ℕ → ℕ → Window → List ℕ → List ℕ
 listAfter m used w l = listFor (answerOf m used w (length l)) (λ n. found m n w) l
+
+abbrev pub In : ℕ → List ℕ → Type 0
+In x l = (i : ℕ) × (i < length l) × (getD l i 0 ≡ x)

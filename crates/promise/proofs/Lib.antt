@@ -6,6 +6,7 @@
 --     Keeping      a call keeps a good state good
 --     Promises     the promises over runs
 --     Bridge       edit by edit, contents that stay, the footbridge
+--     Finding      what a search finds
 --     Answers      one answer each
 --     Tables       the worked examples
 pub mod Steps
@@ -15,5 +16,6 @@ pub mod Contents
 pub mod Keeping
 pub mod Promises
 pub mod Bridge
+pub mod Finding
 pub mod Answers
 pub mod Tables

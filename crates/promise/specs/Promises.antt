@@ -1,14 +1,18 @@
--- The customer's third demand, sentence by sentence, as statements over runs. Each is proved in proofs/Promises.antt under the same name in small letters. A
+-- The customer's third demand, sentence by sentence, as statements over runs. Each is proved in proofs/ under the same name in small letters. A
 -- state is good when its map is accepted and its journal well formed for it; calls may carry any numbers and bytes that a machine can send.
 use Prim.Native.Nat.{ℕ, _+_, _-_, _*_, _/_, _≤_, _<_}
 use mathlib.Core.Bool.{Bool, true, false}
 use mathlib.Core.Path.{_≡_}
+use mathlib.Core.Logic.{_↔_}
 use mathlib.Core.List.{List, [], _∷_, _++_}
 use lib.ListN.{length}
 use Rattle.numbers.specs.Ranges.{share}
+use Rattle.records.specs.declared.Window.{Window}
+use Rattle.records.specs.Windows.{meetsWindow}
 use Rattle.records.specs.Sizes.{headerSize, indexBlockSize}
 use Rattle.records.specs.Headers.{indexHead}
 use Rattle.chain.specs.Chains.{block}
+use Rattle.find.specs.Searches.{found, In}
 use Rattle.journal.specs.Journals.{isHeld, recordsOf}
 use Rattle.edit.specs.declared.Answer.the-variants.{Before}
 use Rattle.edit.specs.Slots.{slotIn, resym, objectSym}
@@ -63,6 +67,19 @@ pub record ByOne (st : State) (c : Call) : Type 0 where
 
 abbrev pub EditByEdit : Type 0
 EditByEdit = (st : State) (c : Call) → Good st → Sent c → isDone st c ≡ true → ByOne st c
+
+-- ---- a search, at any time of a run, lists exactly the live slots whose rectangles meet the window
+abbrev pub SearchFinds : Type 0
+SearchFinds =
+    (st : State) (w : Window) (s : ℕ) → Good st
+    → In s (found (st .map) (blocksIn (st .map) (st .used)) w) ↔ ((isLiveIn st s ≡ true) × (meetsWindow (contentOf (st .map) s .slot) w ≡ true))
+
+-- ---- and so it finds an added object, in every window that the least rectangle over its pairs meets
+abbrev pub AddedIsFound : Type 0
+AddedIsFound =
+    (st : State) (e : ℕ) (o : List ℕ) (w : Window) → Good st → Sent (add e o) → isDone st (add e o) ≡ true
+    → meetsWindow (slotAdded (st .map) (st .used) o) w ≡ true
+    → In (slotNo (outcome st (add e o) .answer)) (found (step st (add e o) .map) (blocksIn (step st (add e o) .map) (step st (add e o) .used)) w)
 
 -- ---- a slot that was live, and is live again after removals and reinstatements, has the content it had
 abbrev pub ContentStays : Type 0

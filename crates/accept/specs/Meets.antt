@@ -1,0 +1,96 @@
+-- Document 01's conditions for a map, sentence by sentence, each chain as the list of its blocks. The check answers accepted exactly when they hold: proved in
+-- proofs/Meets.antt.
+--     Inside used p n         the n bytes from p start behind the header and end inside the map
+--     Apart p n q k           the n bytes from p and the k bytes from q have no byte in common
+--     Off bs n p k            the k bytes from p have no byte in common with a block of bs, of n bytes each
+--     Present used p          setup or info, where its size is not 0, is inside the map
+--     Chain m used h n bs     the blocks along the links, from the link at h to a link of 0, are bs; each lies inside, and no two have a byte in common
+--     cellOf bs w c           where cell c stands: in block c / 256 behind the link, w bytes a cell
+--     GoodRecord              a symbol record at q. Its Size is signed
+--     GoodLive                a live slot t, with its object
+--     Meets m used n          the whole, with n index blocks
+use Prim.Native.Nat.{ℕ, _+_, _*_, _/_, _%_, _≤_, _<_}
+use mathlib.Core.Bool.{true}
+use mathlib.Core.Path.{_≡_}
+use mathlib.Core.List.{List}
+use lib.ListN.{length, getD, drop}
+use lib.Signed.{leZ}
+use Rattle.numbers.specs.Bytes.{u16At, u32At}
+use Rattle.numbers.specs.Coordinates.{valueOf}
+use Rattle.records.specs.declared.Part.{Part}
+use Rattle.records.specs.declared.Slot.{Slot}
+use Rattle.records.specs.Sizes.{headerSize, mapLimit, indexBlockSize, slotSize, symbolBlockSize, entrySize}
+use Rattle.records.specs.Headers.{partOf, pairGood, setupAt, infoAt, indexHead, symbolHead}
+use Rattle.records.specs.Slots.{slotOf, stateOf, lenGood, pairsOf, bytesIn}
+use Rattle.records.specs.Objects.{objectOf, typeGood}
+use Rattle.records.specs.Symbols.{sizeGood}
+use Rattle.chain.specs.Chains.{Links}
+use Rattle.chain.specs.Cells.{cellIn}
+use Rattle.accept.specs.declared.Verdict.the-variants.{Accepted}
+use Rattle.accept.specs.Judging.{versionOf, isLive}
+use Rattle.accept.specs.Verdicts.{verdict}
+
+pub record Inside (used p n : ℕ) : Type 0 where
+  pub low : headerSize ≤ p
+  pub high : p + n ≤ used
+
+abbrev pub Apart : ℕ → ℕ → ℕ → ℕ → Type 0
+Apart p n q k = (x : ℕ) → p ≤ x → x < p + n → q ≤ x → x < q + k → ⊥
+
+abbrev pub Off : List ℕ → ℕ → ℕ → ℕ → Type 0
+Off bs n p k = (i : ℕ) → i < length bs → Apart (getD bs i 0) n p k
+
+abbrev pub Present : ℕ → Part → Type 0
+Present used p = (p .size ≡ 0 → ⊥) → Inside used (p .at) (p .size)
+
+pub record Chain (m : List ℕ) (used h n : ℕ) (bs : List ℕ) : Type 0 where
+  pub links : Links m h bs
+  pub lies : (k : ℕ) → k < length bs → Inside used (getD bs k 0) n
+  pub apart : (i k : ℕ) → i < k → k < length bs → Apart (getD bs i 0) n (getD bs k 0) n
+
+abbrev pub cellOf : List ℕ → ℕ → ℕ → ℕ
+cellOf bs w c = cellIn (getD bs (c / 256) 0) w (c % 256)
+
+pub record GoodRecord (m : List ℕ) (used : ℕ) (index : List ℕ) (q : ℕ) : Type 0 where
+  pub start : Inside used q 2
+  pub size : sizeGood (u16At m q) ≡ true
+  pub lies : Inside used q (u16At m q)
+  pub off : Off index indexBlockSize q (u16At m q)
+
+pub record GoodLive (m : List ℕ) (used : ℕ) (index : List ℕ) (t : Slot) : Type 0 where
+  pub wide : leZ (valueOf (t .left)) (valueOf (t .right)) ≡ true
+  pub tall : leZ (valueOf (t .bottom)) (valueOf (t .top)) ≡ true
+  pub len : lenGood (versionOf m) (t .len) ≡ true
+  pub lies : Inside used (t .position) (bytesIn (versionOf m) (t .len))
+  pub off : Off index indexBlockSize (t .position) (bytesIn (versionOf m) (t .len))
+  pub sym : objectOf (drop (t .position) m) .sym ≡ t .sym
+  pub kind : typeGood (objectOf (drop (t .position) m) .kind) ≡ true
+  pub pairs : objectOf (drop (t .position) m) .items + objectOf (drop (t .position) m) .texts ≡ pairsOf (versionOf m) (t .len)
+
+pub record Meets (m : List ℕ) (used n : ℕ) : Type 0 where
+  -- 1: the length
+  pub least : headerSize ≤ used
+  pub most : used ≤ mapLimit
+  pub room : used ≤ length m
+  -- 2 and 3: the mark, and the pair of version and section mark
+  pub mark : u16At m 0 ≡ 3245
+  pub pair : pairGood (versionOf m) (u16At m 2) ≡ true
+  -- 4: setup and info
+  pub setup : Present used (partOf m setupAt)
+  pub info : Present used (partOf m infoAt)
+  -- 5: the index blocks
+  pub blocks : List ℕ
+  pub count : length blocks ≡ n
+  pub index : Chain m used indexHead indexBlockSize blocks
+  pub off-setup : Off blocks indexBlockSize (partOf m setupAt .at) (partOf m setupAt .size)
+  pub off-info : Off blocks indexBlockSize (partOf m infoAt .at) (partOf m infoAt .size)
+  -- 6: the symbol blocks, and each entry that is used
+  pub symbols : List ℕ
+  pub symbol : Chain m used symbolHead symbolBlockSize symbols
+  pub off-index : (k : ℕ) → k < length symbols → Off blocks indexBlockSize (getD symbols k 0) symbolBlockSize
+  pub entries : (e : ℕ) → e < 256 * length symbols → (u32At m (cellOf symbols entrySize e) ≡ 0 → ⊥) → GoodRecord m used blocks (u32At m (cellOf symbols entrySize e))
+  -- 7: each live slot
+  pub slots : (s : ℕ) → s < 256 * length blocks → isLive (stateOf (slotOf m (cellOf blocks slotSize s))) ≡ true → GoodLive m used blocks (slotOf m (cellOf blocks slotSize s))
+
+abbrev pub AcceptedExactly : Type 0
+AcceptedExactly = (m : List ℕ) (used n : ℕ) → (Meets m used n → verdict m used ≡ Accepted n) × (verdict m used ≡ Accepted n → Meets m used n)
