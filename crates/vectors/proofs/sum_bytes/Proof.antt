@@ -1,0 +1,29 @@
+-- `vectors::sum_bytes` is safe: the sum stays a number of 32 bits. The measure is what is left of the bytes. Assumes nothing.
+use Prim.Native.Nat.{_-_, _<_}
+use borrow.Author.Needs.{needs}
+use lib.ListN.{length}
+use Rattle.vectors.proofs.sum_bytes.Statement.{statement}
+use Rattle.vectors.proofs.sum_bytes.Tie as tie
+
+abbrev Inv-loop : tie.InvT-loop
+Inv-loop s sum₀ i₀ sum i = sum < 4294967296
+
+abbrev μ-loop : tie.MeasureT-loop
+μ-loop s sum₀ i₀ sum i = length s - i
+
+pub sum-bytes-spec : {M : Type 1} → statement M
+sum-bytes-spec =
+    tie.close
+    (tie.spec
+    Inv-loop
+    μ-loop
+    (λ c. search needs)
+    (λ c. search needs)
+    (λ c. search needs)
+    (λ c κs. search needs)
+    (λ c. search needs)
+    (λ c. search needs)
+    (λ c. search needs)
+    (λ c. search needs)
+    (λ c. search needs)
+    (λ c. search needs))
