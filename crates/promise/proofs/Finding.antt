@@ -1,7 +1,7 @@
 -- What a search finds in a good state: the live slots that meet the window, an added one among them. Assumes nothing.
 use Prim.Native.Nat.{ℕ, _*_, _<_}
-use mathlib.Core.Bool.{Bool, true, false, and-eq-true-iff}
-use mathlib.Core.Path.{_≡_, refl, sym, _∙_}
+use mathlib.Core.Bool.{Bool, true, and-eq-true-iff}
+use mathlib.Core.Path.{_≡_, sym, _∙_}
 use mathlib.Core.Logic.{_↔_}
 use mathlib.Core.List.{List}
 use Rattle.records.specs.declared.Window.{Window}
@@ -10,12 +10,11 @@ use Rattle.records.specs.Slots.{slotOf, stateOf}
 use Rattle.records.specs.Windows.{meetsWindow}
 use Rattle.accept.specs.Rules.{slotAt}
 use Rattle.accept.specs.Judging.{isLive}
-use Rattle.find.specs.Searches.{wantedAt, liveIn, found, In}
+use Rattle.find.specs.Searches.{wantedAt, found, In}
 use Rattle.find.proofs.Searches.{in-list}
 use Rattle.edit.specs.Slots.{slotIn, hasState}
-use Rattle.edit.specs.Edits.{slotAdded, slotNo}
 use Rattle.edit.proofs.Syms.{has-tells}
-use Rattle.promise.specs.Runs.{State, Call, add, outcome, step, isDone, isLiveIn, contentOf, blocksIn, Good, Sent}
+use Rattle.promise.specs.Runs.{Call, add, step, isLiveIn, contentOf, blocksIn}
 use Rattle.promise.specs.Promises.{ByOne, SearchFinds, AddedIsFound}
 use Rattle.promise.proofs.Contents.{has-live}
 use Rattle.promise.proofs.Keeping.{step-good}

@@ -9,6 +9,7 @@
 --     Finding      what a search finds
 --     Answers      one answer each
 --     Tables       the worked examples
+--     Footprints   what the verdict depends on
 pub mod Steps
 pub mod Bytes
 pub mod Moves
@@ -19,3 +20,4 @@ pub mod Bridge
 pub mod Finding
 pub mod Answers
 pub mod Tables
+pub mod Footprints

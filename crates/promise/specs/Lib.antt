@@ -3,7 +3,9 @@
 --     Promises     the customer's sentences, each a statement over runs
 --     Answers      one answer each: any two results that a call's statement allows are equal
 --     Tables       document 01's worked examples that are to be proved
+--     Footprints   which bytes the verdict on an accepted map depends on
 pub mod Runs
 pub mod Promises
 pub mod Answers
 pub mod Tables
+pub mod Footprints

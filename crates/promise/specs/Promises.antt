@@ -1,7 +1,7 @@
 -- The customer's third demand, sentence by sentence, as statements over runs. Each is proved in proofs/ under the same name in small letters. A
 -- state is good when its map is accepted and its journal well formed for it; calls may carry any numbers and bytes that a machine can send.
-use Prim.Native.Nat.{ℕ, _+_, _-_, _*_, _/_, _≤_, _<_}
-use mathlib.Core.Bool.{Bool, true, false}
+use Prim.Native.Nat.{ℕ, _+_, _-_, _/_, _≤_, _<_}
+use mathlib.Core.Bool.{true, false}
 use mathlib.Core.Path.{_≡_}
 use mathlib.Core.Logic.{_↔_}
 use mathlib.Core.List.{List, [], _∷_, _++_}
@@ -17,7 +17,7 @@ use Rattle.journal.specs.Journals.{isHeld, recordsOf}
 use Rattle.edit.specs.declared.Answer.the-variants.{Before}
 use Rattle.edit.specs.Slots.{slotIn, resym, objectSym}
 use Rattle.edit.specs.Edits.{slotAdded, slotNo}
-use Rattle.promise.specs.Runs.{State, Call, add, remove, reinstate, search, outcome, step, run, isDone, doneIn, recordsIn, blocksIn, Edited, appliedAll, isLiveIn, Content, contentOf, Good, Sent, AllSent}
+use Rattle.promise.specs.Runs.{State, Call, add, remove, reinstate, search, outcome, step, run, isDone, doneIn, recordsIn, blocksIn, Edited, appliedAll, isLiveIn, contentOf, Good, Sent, AllSent}
 
 -- ---- "after any run of adds, removals, reinstatements and searches, refused and repeated ones among them, the map is accepted"; and the journal is well
 -- formed for it
