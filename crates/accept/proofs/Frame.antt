@@ -38,7 +38,7 @@ use Rattle.accept.specs.declared.Verdict.the-variants.{Accepted}
 use Rattle.accept.specs.Rules.{indexRule, symbolRule, touches, slotAt, entryAt}
 use Rattle.accept.specs.Judging.{versionOf, partGood, slotGood, isLive, badSlot, badEntry}
 use Rattle.accept.specs.Verdicts.{verdict}
-use Rattle.accept.proofs.Judging.{bytes-least}
+use Rattle.accept.proofs.Judging.{size-two, bytes-least}
 use Rattle.accept.proofs.Accepting.{Holds}
 use Rattle.accept.proofs.Telling.{GoodSlot, slot-is, slot-tells, GoodSymbol, bad-tells, bad-good, bad-dead, entry-tells, entry-good, entry-unused}
 
@@ -63,10 +63,6 @@ part-grown used used′ p l e = go (eqb (p .size) 0) refl e
     go false f g =
         let i = within-true 48 used (p .size) (p .at) g in
         rw f (within-is 48 used′ (p .size) (p .at) (i .0) (omega arith))
-
--- a Size that is good is two bytes at least
-size-two : (n : ℕ) → sizeGood n ≡ true → 2 ≤ n
-size-two n e = ⊎-elim (λ l. absurd (never (sym e ∙ size-small n l))) (λ l. omega arith) (lt-or-ge n 348)
 
 -- a byte of a range that no index block meets is in none itself
 pub touch-part : (m : List ℕ) (n p len i j : ℕ) → touches m n p len ≡ false → p ≤ i → i + j ≤ p + len → touches m n i j ≡ false

@@ -1,19 +1,25 @@
 -- The laws of the tests: what a test in the code tells of the test in a definition, the table in the place of the chain, an object's header read in a lent
 -- part, and the bounds of an object's bytes. Assumes nothing.
-use Prim.Native.Nat.{ℕ, _+_, _*_, _≤_}
-use mathlib.Core.Bool.{Bool, true, false, not, cond}
+use Prim.Native.Nat.{ℕ, _+_, _-_, _*_, _/_, _%_, _≤_}
+use mathlib.Core.Bool.{Bool, true, false, not, cond, _&&_, and-eq-true-iff}
+use mathlib.Core.Logic.{⊎-elim}
 use mathlib.Core.Path.{_≡_, refl, sym, _∙_, fun-ext}
 use mathlib.Core.List.{List}
 use native.Mathlib.Omega.{arith}
-use lib.Dec.{eqb}
+use native.Mathlib.Decide.{ℕ-discrete}
+use lib.Dec.{eqb, leb}
 use lib.ListN.{take, drop}
 use lib.Seq.{getD-take}
-use borrow.Author.Tests.{not-true, not-false, eqb-false}
+use borrow.Author.Tests.{not-true, not-false, eqb-true, eqb-false, eq-eqb, ne-eqb, leb-true}
 use Rattle.numbers.specs.Bytes.{u16At}
 use Rattle.numbers.proofs.Bytes.{leAt-part, leAt-drop}
-use Rattle.records.specs.Sizes.{indexBlockSize, objectHeaderSize}
+use Rattle.records.specs.Sizes.{indexBlockSize, indexPage, objectHeaderSize}
 use Rattle.records.specs.Headers.{indexHead}
-use Rattle.records.specs.Slots.{lenGood, bytesIn}
+use Rattle.numbers.proofs.Below.{never}
+use Rattle.numbers.proofs.Coordinates.{lt-or-ge}
+use Rattle.records.specs.Slots.{lenGood, pairsOf, bytesIn}
+use Rattle.records.specs.Symbols.{sizeGood}
+use Rattle.records.proofs.Symbols.{size-small}
 use Rattle.records.specs.Objects.{objectOf}
 use Rattle.records.proofs.Slots.{len-room}
 use Rattle.chain.specs.Tables.{Table, tableMeets}
@@ -28,8 +34,8 @@ pub passes : {r b : Bool} → r ≡ b → not r ≡ false → b ≡ true
 passes {r} e t = sym e ∙ not-false r t
 
 -- the table's test of a range is the chain's
-pub same-touch : {m : List ℕ} {n : ℕ} {t : List ℕ} → Table indexHead indexBlockSize m n t → tableMeets indexBlockSize t ≡ touches m n
-same-touch w = fun-ext (λ p. fun-ext (λ len. table-meets w p len))
+pub same-touch : {m : List ℕ} {n : ℕ} {t : List ℕ} → Table indexHead indexPage m n t → tableMeets indexBlockSize t ≡ touches m n
+same-touch w = fun-ext (λ p. fun-ext (λ len. table-meets w indexBlockSize p len))
 
 -- an object's header, read in a part that has it
 pub object-part : (m : List ℕ) (p : ℕ) {k : ℕ} → objectHeaderSize ≤ k → objectOf (take k (drop p m)) ≡ objectOf (drop p m)
@@ -60,3 +66,24 @@ bytes-most v len = go (eqb v 8)
     go : (b : Bool) → cond b (32 + 8 * len) len ≤ 32 + 8 * len
     go true = omega arith
     go false = omega arith
+
+-- a Size that is good is two bytes at least
+pub size-two : (n : ℕ) → sizeGood n ≡ true → 2 ≤ n
+size-two n e = ⊎-elim (λ l. absurd (never (sym e ∙ size-small n l))) (λ l. omega arith) (lt-or-ge n 348)
+
+-- the bytes of an object tell its pairs
+bytes-pairs : (v len : ℕ) → lenGood v len ≡ true → bytesIn v len ≡ 32 + 8 * pairsOf v len
+unfolding bytesIn pairsOf lenGood
+bytes-pairs v len g = go (eqb v 8) g
+  where
+    go : (b : Bool) → cond b (leb len 32768) (leb 40 len && eqb ((len - 32) % 8) 0) ≡ true → cond b (32 + 8 * len) len ≡ 32 + 8 * cond b len ((len - 32) / 8)
+    go true e = refl
+    go false e = let a = and-eq-true-iff (leb 40 len) (eqb ((len - 32) % 8) 0) .0 e in omega (arith, leb-true 40 len (a .0), eqb-true ((len - 32) % 8) 0 (a .1))
+
+pub pairs-by-bytes : (v len k : ℕ) → lenGood v len ≡ true → eqb (32 + 8 * k) (bytesIn v len) ≡ eqb k (pairsOf v len)
+pairs-by-bytes v len k g =
+    rw (bytes-pairs v len g)
+    (elim (ℕ-discrete k (pairsOf v len)) [
+      | yes e ↦ eq-eqb (32 + 8 * k) (32 + 8 * pairsOf v len) (omega arith) ∙ sym (eq-eqb k (pairsOf v len) e)
+      | no e ↦ ne-eqb (32 + 8 * k) (32 + 8 * pairsOf v len) (λ h. e (omega arith)) ∙ sym (ne-eqb k (pairsOf v len) e)
+    ])

@@ -3,6 +3,7 @@
 --     Rules        the rule of each chain, as the walk has it
 --     Looking      the look at one cell of a chain after the other
 --     Verdicts     the parts of the answer
+--     Slots        the first free slot
 --     Telling      what a good slot and a good symbol record tell
 --     Accepting    what an accepted map tells, and what shows one
 --     Meets        an accepted map meets document 01, and a map that meets it is accepted
@@ -11,6 +12,7 @@
 pub mod Judging
 pub mod Rules
 pub mod Looking
+pub mod Slots
 pub mod Telling
 pub mod Verdicts
 pub mod Accepting

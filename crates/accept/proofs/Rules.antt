@@ -1,6 +1,6 @@
 -- The laws of the two kinds of chain: as the code hands a kind to the walk, it is the rule of specs/; what the walk needs of it; and where a link can stand.
 -- Assumes nothing.
-use Prim.Native.Nat.{ℕ, zero, suc, _*_, _≤_, _<_}
+use Prim.Native.Nat.{ℕ, zero, suc, _+_, _*_, _≤_, _<_}
 use mathlib.Core.Bool.{Bool}
 use mathlib.Core.Path.{_≡_, refl, sym, ap, _∙_, subst}
 use mathlib.Core.List.{List}
@@ -9,15 +9,16 @@ use lib.ListN.{length}
 use Rattle.numbers.specs.Bytes.{Bytes}
 use Rattle.numbers.proofs.Bytes.{leAt-lt}
 use Rattle.records.specs.declared.Header.{Header}
-use Rattle.records.specs.Sizes.{headerSize, mapLimit, indexBlockSize, symbolBlockSize}
+use Rattle.records.specs.Sizes.{headerSize, mapLimit, indexPage, symbolBlockSize, symbolPage}
 use Rattle.records.specs.Headers.{headerOf, setupAt, infoAt, indexHead, symbolHead}
 use Rattle.chain.specs.declared.Kind.{Kind}
 use Rattle.chain.specs.declared.Walk.{Walk}
 use Rattle.chain.specs.declared.Walk.the-variants.{Fault}
 use Rattle.chain.specs.Chains.{Rule, place, walked, taken}
-use Rattle.chain.specs.Tables.{Empty, Placed, Table, kindRule, Ready}
+use Rattle.chain.specs.Tables.{Empty, Placed, Filled, Table, kindRule, Ready}
 use Rattle.chain.proofs.Chains.{fault-tells}
-use Rattle.chain.proofs.Tables.{empty-placed, rule-ranges, rule-other}
+use Rattle.chain.proofs.Tables.{rule-ranges, rule-other}
+use Rattle.chain.proofs.Filling.{empty-filled}
 use Rattle.accept.specs.Rules.{indexRule, symbolRule, indexKind, symbolKind}
 use Rattle.accept.proofs.Judging.{same-touch}
 
@@ -28,13 +29,14 @@ module _ (m : List ℕ) {h : Header} {k : Kind} (e : h ≡ headerOf m) (f : k �
   unfolding headerOf
   index-rule = rw (f, e) (rule-ranges (indexKind (headerOf m)) none g)
 
-  pub index-ready : {used : ℕ} {t : List ℕ} → Bytes m → headerSize ≤ used → used ≤ mapLimit → mapLimit ≤ length none * 65536 → used ≤ length t * indexBlockSize → Ready k used none t
+  pub index-ready : {used : ℕ} {t : List ℕ} → Bytes m → headerSize ≤ used → used ≤ mapLimit → 2 ≤ length none → used + indexPage ≤ length t * indexPage → Ready k used none t
   unfolding headerOf
   index-ready b least most reach wide =
       rw (f, e)
       (record {
         bounds = record {
           most = most;
+          block-least = omega arith;
           block-most = omega arith;
           first-fits = leAt-lt 4 m setupAt b;
           first-size-fits = leAt-lt 4 m 20 b;
@@ -42,30 +44,33 @@ module _ (m : List ℕ) {h : Header} {k : Kind} (e : h ≡ headerOf m) (f : k �
           second-size-fits = leAt-lt 4 m 28 b;
           other-least = omega arith;
           other-most = omega arith;
+          other-page = omega arith;
           other-wide = omega arith;
-          other-placed = empty-placed 65536 g;
+          other-filled = empty-filled mapLimit _ g;
         };
         least = least;
-        block-least = omega arith;
         head-in = omega arith;
+        page-least = omega arith;
+        page-most = omega arith;
         wide = wide;
       })
 
 -- ---- symbol blocks
 
 module _ {k : Kind} (e : k ≡ symbolKind) where
-  pub symbol-rule : {m : List ℕ} {n : ℕ} {index : List ℕ} → Table indexHead indexBlockSize m n index → kindRule k index ≡ symbolRule m n
+  pub symbol-rule : {m : List ℕ} {n : ℕ} {index : List ℕ} → Table indexHead indexPage m n index → kindRule k index ≡ symbolRule m n
   symbol-rule {index} w =
       rw e
       (rule-other symbolKind index refl refl
       ∙ ap (λ (touch : ℕ → ℕ → Bool). record { head = symbolHead; size = symbolBlockSize; taboo = λ p. touch p symbolBlockSize }) (same-touch w))
 
-  pub symbol-ready : {used : ℕ} {index t : List ℕ} → headerSize ≤ used → used ≤ mapLimit → used ≤ length index * indexBlockSize → Placed indexBlockSize index → used ≤ length t * symbolBlockSize → Ready k used index t
-  symbol-ready least most reach placed wide =
+  pub symbol-ready : {used : ℕ} {index t : List ℕ} → headerSize ≤ used → used ≤ mapLimit → used + indexPage ≤ length index * indexPage → Filled indexPage used index → used + symbolPage ≤ length t * symbolPage → Ready k used index t
+  symbol-ready least most reach filled wide =
       rw e
       (record {
         bounds = record {
           most = most;
+          block-least = omega arith;
           block-most = omega arith;
           first-fits = omega arith;
           first-size-fits = omega arith;
@@ -73,20 +78,22 @@ module _ {k : Kind} (e : k ≡ symbolKind) where
           second-size-fits = omega arith;
           other-least = omega arith;
           other-most = omega arith;
+          other-page = omega arith;
           other-wide = reach;
-          other-placed = placed;
+          other-filled = filled;
         };
         least = least;
-        block-least = omega arith;
         head-in = omega arith;
+        page-least = omega arith;
+        page-most = omega arith;
         wide = wide;
       })
 
 -- ---- what a walk answers, by the rule that its kind is
 
-pub walk-by : {r s : Rule} {m : List ℕ} (used : ℕ) {w : Walk} {t : List ℕ} → r ≡ s → (w ≡ walked r m used) × Table (r .head) (r .size) m (taken r m used) t → (walked s m used ≡ w) × Table (s .head) (s .size) m (taken s m used) t
-walk-by {m} used {w} {t} e h =
-    subst (λ (q : Rule). (walked q m used ≡ w) × Table (q .head) (q .size) m (taken q m used) t) e (sym (h .0), h .1)
+pub walk-by : {r s : Rule} {m : List ℕ} (used : ℕ) {w : Walk} {a b : ℕ} {t : List ℕ} → r ≡ s → a ≡ b → (w ≡ walked r m used) × Placed a t × Table (r .head) a m (taken r m used) t → (walked s m used ≡ w) × Placed b t × Table (s .head) b m (taken s m used) t
+walk-by {m} used {w} {a} {t} e f h =
+    rw f at (subst (λ (q : Rule). (walked q m used ≡ w) × Placed a t × Table (q .head) a m (taken q m used) t) e (sym (h .0), h .1, h .2))
 
 -- ---- a link at fault stands at the head, or where another link says
 

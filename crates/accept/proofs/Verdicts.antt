@@ -1,25 +1,27 @@
 -- The laws of the answers: what a good length tells, what the symbol blocks are judged to be, and what an accepted map tells behind its header. Assumes
 -- nothing.
-use Prim.Native.Nat.{ℕ, _≤_}
+use Prim.Native.Nat.{ℕ, _*_, _≤_, _<_}
 use mathlib.Core.Bool.{Bool, true, false, cond, _&&_}
-use mathlib.Core.Path.{_≡_, refl, sym, ap}
+use mathlib.Core.Path.{_≡_, refl, sym, ap, _∙_}
 use mathlib.Core.List.{List}
 use native.Mathlib.Omega.{arith}
 use lib.Dec.{leb}
 use lib.ListN.{length}
 use borrow.Author.Tests.{leb-true}
 use Rattle.records.specs.Sizes.{headerSize, mapLimit}
-use Rattle.records.specs.Headers.{headerOf}
+use Rattle.numbers.specs.Bytes.{u32At}
+use Rattle.records.specs.Headers.{headerOf, indexHead, symbolHead}
 use Rattle.chain.specs.declared.Walk.{Walk}
 use Rattle.chain.specs.declared.Walk.the-variants.{Blocks, Fault}
-use Rattle.chain.specs.Chains.{Rule, walked, taken}
-use Rattle.chain.proofs.Chains.{walked-taken, fault-tells}
+use Rattle.chain.specs.Chains.{Rule, place, block, walked, taken}
+use Rattle.chain.proofs.Chains.{pass-none, block-at, stops-zero, taken-is, walked-blocks, walked-taken, fault-tells}
 use Rattle.accept.specs.declared.Verdict.{Verdict}
 use Rattle.accept.specs.declared.Verdict.the-variants.{Accepted, Refused}
 use Rattle.accept.specs.declared.Judged.{Judged}
 use Rattle.accept.specs.declared.Judged.the-variants.{Good, Bad}
-use Rattle.accept.specs.Rules.{symbolRule}
-use Rattle.accept.specs.Judging.{lengthGood}
+use Rattle.accept.specs.Rules.{indexRule, symbolRule, touches, slotAt, entryAt}
+use Rattle.accept.specs.Judging.{versionOf, lengthGood, badSlot, badEntry}
+use Rattle.accept.proofs.Looking.{cells-good}
 use Rattle.accept.proofs.Telling.{and-true}
 use Rattle.accept.specs.Verdicts.{unless, firstOf, linkJudged, fieldsJudged, headerJudged, entriesJudged, symbolsJudged, slotsJudged, afterIndex}
 
@@ -59,6 +61,24 @@ symbols-is m used n {w} e f = rw (e, ← taken-of (symbolRule m n) m used w e, �
 pub first-good : (j : Judged) → firstOf j Good ≡ j
 first-good Good = refl
 first-good (Bad n p) = refl
+
+-- ---- a chain whose first link is 0
+
+pub no-blocks : (r : Rule) (m : List ℕ) (used : ℕ) → 0 < r .size → u32At m (r .head) ≡ 0 → walked r m used ≡ Blocks 0
+unfolding place
+no-blocks r m used l e =
+    let b : block (r .head) m 0 ≡ 0 = sym (block-at (r .head) m 0 refl) ∙ e in
+    walked-blocks r m used (taken-is r m used l (pass-none r m used) (stops-zero r m used 0 b)) b
+
+pub no-symbols : (m : List ℕ) (used n : ℕ) → u32At m symbolHead ≡ 0 → symbolsJudged m used n ≡ Good
+unfolding entriesJudged
+no-symbols m used n e =
+    symbols-is m used n (no-blocks (symbolRule m n) m used (omega arith) e) (sym (cells-good 6 (λ i. badEntry (touches m n) m used (entryAt m i)) (entryAt m) (256 * 0) (λ i l. absurd (omega arith))))
+
+pub no-index : (m : List ℕ) (used : ℕ) → u32At m indexHead ≡ 0 → u32At m symbolHead ≡ 0 → afterIndex m used (walked (indexRule m) m used) ≡ Accepted 0
+unfolding afterIndex slotsJudged
+no-index m used e f =
+    rw (no-blocks (indexRule m) m used (omega arith) e, no-symbols m used 0 f, cells-good 7 (λ s. badSlot (touches m 0) m used (versionOf m) (slotAt m s)) (slotAt m) (256 * 0) (λ i l. absurd (omega arith)))
 
 -- ---- accepted, and with how many index blocks
 

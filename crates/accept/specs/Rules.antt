@@ -11,7 +11,7 @@ use Prim.Native.Nat.{ℕ}
 use mathlib.Core.Bool.{Bool, _||_}
 use mathlib.Core.List.{List}
 use Rattle.numbers.specs.Ranges.{share}
-use Rattle.records.specs.Sizes.{indexBlockSize, slotSize, symbolBlockSize, entrySize}
+use Rattle.records.specs.Sizes.{indexBlockSize, indexPage, slotSize, symbolBlockSize, symbolPage, entrySize, mapLimit}
 use Rattle.records.specs.Headers.{partOf, setupAt, infoAt, indexHead, symbolHead}
 use Rattle.records.specs.declared.Header.{Header}
 use Rattle.chain.specs.declared.Kind.{Kind}
@@ -45,11 +45,13 @@ indexKind h =
     record {
       head = indexHead;
       size = indexBlockSize;
+      page = indexPage;
       first = h .setup .at;
       «first_size» = h .setup .size;
       second = h .info .at;
       «second_size» = h .info .size;
-      «other_size» = 65536;
+      «other_size» = indexBlockSize;
+      «other_page» = mapLimit;
     }
 
 abbrev pub symbolKind : Kind
@@ -57,9 +59,11 @@ symbolKind =
     record {
       head = symbolHead;
       size = symbolBlockSize;
+      page = symbolPage;
       first = 0;
       «first_size» = 0;
       second = 0;
       «second_size» = 0;
       «other_size» = indexBlockSize;
+      «other_page» = indexPage;
     }

@@ -1,6 +1,7 @@
 // The check of a map: document 01's refusals 1 to 7, or accepted.
 use chain::Kind;
 use chain::Walk;
+use chain::fill;
 use chain::meets_block;
 use chain::next_cell;
 use chain::walk_chain;
@@ -18,28 +19,36 @@ use records::SymbolRecord;
 use records::bytes_in;
 use records::len_good;
 use records::pair_good;
-use records::pairs_of;
 use records::read_slot;
 use records::size_good;
 use records::type_good;
 ghost use mathlib.Core.Path.{_≡_};
-ghost use mathlib.Core.Bool.{true};
+ghost use mathlib.Core.Bool.{Bool, true};
 ghost use Prim.Native.Nat.{ℕ, _+_, _*_, _≤_, _<_};
 ghost use lib.ListN.{length, drop};
-ghost use Rattle.records.specs.Sizes.{headerSize, indexBlockSize, slotSize, entrySize, mapLimit};
+ghost use Rattle.records.specs.Sizes.{headerSize, indexBlockSize, indexPage, slotSize, entrySize, mapLimit};
 ghost use Rattle.records.specs.Headers.{headerOf, indexHead};
-ghost use Rattle.records.specs.Slots.{lenGood};
+ghost use Rattle.numbers.specs.Below.{first};
+ghost use Rattle.records.specs.Slots.{lenGood, bytesIn};
 ghost use Rattle.chain.specs.Chains.{walked, taken};
-ghost use Rattle.chain.specs.Tables.{Empty, Placed, Table, tableMeets};
+ghost use Rattle.chain.specs.Tables.{Empty, Placed, Filled, Table, tableMeets};
 ghost use Rattle.chain.specs.declared.Walk.the-variants.{Blocks};
 ghost use Rattle.accept.specs.declared.Verdict.the-variants.{Accepted};
+ghost use Rattle.accept.specs.declared.Examined.the-variants as examined;
+ghost use Rattle.accept.specs.Slots.{noLen, withFree};
 ghost use Rattle.accept.specs.Rules.{indexRule, symbolRule, indexKind, symbolKind};
 ghost use Rattle.accept.specs.Judging.{versionOf, lengthGood, partGood, headerFits, objectGood, slotGood, badSlot, symbolGood, badEntry};
-ghost use Rattle.accept.specs.Verdicts.{numberOf, placeOf, fieldsJudged, headerJudged, entriesJudged, symbolsJudged, slotsJudged, afterIndex, verdict};
+ghost use Rattle.accept.specs.Verdicts.{numberOf, placeOf, unless, fieldsJudged, headerJudged, entriesJudged, symbolsJudged, slotsJudged, afterIndex, verdict};
 
 // What the check answers. Refusals carry document 01's number and place.
 pub enum Verdict {
     Accepted { blocks: usize },
+    Refused { number: u32, place: u32 },
+}
+
+// What the examination for an edit answers: accepted, with the number of index blocks and the first free slot, 256 times the blocks where none is free.
+pub enum Examined {
+    Accepted { blocks: usize, free: usize },
     Refused { number: u32, place: u32 },
 }
 
@@ -104,14 +113,14 @@ fn judge_fields(h: Header, used: usize) -> Judged
     if !part_good(used, setup) {
         return Judged::Bad {
             number: 4,
-            place: 16,
+            place: Header::SETUP as u32,
         };
     }
     let info = h.info;
     if !part_good(used, info) {
         return Judged::Bad {
             number: 4,
-            place: 24,
+            place: Header::INFO as u32,
         };
     }
     Judged::Good
@@ -142,10 +151,9 @@ fn judge_header(m: &[u8], used: usize) -> Judged
     judge_fields(Header::of(m), used)
 }
 
-// Whether an object's header fits its slot.
-fn header_fits(h: ObjectHeader, version: u16, t: Slot) -> bool
-    requires { ⌜ lenGood version (t .len) ≡ true ⌝ }
-    ensures { λ r. ⌜ r ≡ headerFits h version t ⌝ }
+// Whether an object's header fits its slot, whose object has so many bytes.
+fn header_fits(h: ObjectHeader, t: Slot, bytes: usize) -> bool
+    ensures { λ r. ⌜ ((version : ℕ) → lenGood version (t .len) ≡ true → bytes ≡ bytesIn version (t .len) → r ≡ headerFits h version t) ⌝ }
 {
     if h.sym != t.sym {
         return false;
@@ -153,12 +161,12 @@ fn header_fits(h: ObjectHeader, version: u16, t: Slot) -> bool
     if !type_good(h.kind) {
         return false;
     }
-    h.items as usize + h.texts as usize == pairs_of(version, t.len)
+    ObjectHeader::SIZE + ObjectHeader::PAIR * (h.items as usize + h.texts as usize) == bytes
 }
 
 // Whether a slot's object is good. The part of the map that starts at its position is handed on.
 fn object_good(m: &[u8], used: usize, version: u16, index: &[u32], t: Slot) -> bool
-    requires { ⌜ (used ≤ mapLimit) × (used ≤ length (now m)) × (used ≤ length (now index) * indexBlockSize) × Placed indexBlockSize (now index) × (lenGood version (t .len) ≡ true) ⌝ }
+    requires { ⌜ (used ≤ mapLimit) × (used ≤ length (now m)) × (used + indexPage ≤ length (now index) * indexPage) × Filled indexPage used (now index) × (lenGood version (t .len) ≡ true) ⌝ }
     ensures { λ r. ⌜ r ≡ objectGood (tableMeets indexBlockSize (now (index .entry))) (now (m .entry)) used version t ⌝ }
 {
     let at = t.position as usize;
@@ -169,15 +177,15 @@ fn object_good(m: &[u8], used: usize, version: u16, index: &[u32], t: Slot) -> b
     if used < at + bytes {
         return false;
     }
-    if meets_block(index, IndexBlock::SIZE, at, bytes) {
+    if meets_block(index, IndexBlock::PAGE, IndexBlock::SIZE, at, bytes) {
         return false;
     }
-    header_fits(ObjectHeader::of(&m[at..]), version, t)
+    header_fits(ObjectHeader::of(&m[at..]), t, bytes)
 }
 
 // Whether a slot would be good as a live one.
 pub fn slot_good(m: &[u8], used: usize, version: u16, index: &[u32], t: Slot) -> bool
-    requires { ⌜ (used ≤ mapLimit) × (used ≤ length (now m)) × (used ≤ length (now index) * indexBlockSize) × Placed indexBlockSize (now index) ⌝ }
+    requires { ⌜ (used ≤ mapLimit) × (used ≤ length (now m)) × (used + indexPage ≤ length (now index) * indexPage) × Filled indexPage used (now index) ⌝ }
     ensures { λ r. ⌜ r ≡ slotGood (tableMeets indexBlockSize (now (index .entry))) (now (m .entry)) used version t ⌝ }
 {
     if !at_most(t.left, t.right) {
@@ -194,7 +202,7 @@ pub fn slot_good(m: &[u8], used: usize, version: u16, index: &[u32], t: Slot) ->
 
 // Whether the slot at a place is live and not good.
 fn bad_slot(m: &[u8], used: usize, version: u16, index: &[u32], at: usize) -> bool
-    requires { ⌜ (at + slotSize ≤ length (now m)) × (used ≤ mapLimit) × (used ≤ length (now m)) × (used ≤ length (now index) * indexBlockSize) × Placed indexBlockSize (now index) ⌝ }
+    requires { ⌜ (at + slotSize ≤ length (now m)) × (used ≤ mapLimit) × (used ≤ length (now m)) × (used + indexPage ≤ length (now index) * indexPage) × Filled indexPage used (now index) ⌝ }
     ensures { λ r. ⌜ r ≡ badSlot (tableMeets indexBlockSize (now (index .entry))) (now (m .entry)) used version at ⌝ }
 {
     let found = read_slot(m, at);
@@ -209,30 +217,46 @@ fn bad_slot(m: &[u8], used: usize, version: u16, index: &[u32], at: usize) -> bo
     }
 }
 
-// 7: the live slot at fault of lowest number.
-fn judge_slots(m: &[u8], used: usize, index: &[u32], n: usize) -> Judged
-    requires { ⌜ (headerSize ≤ used) × (used ≤ mapLimit) × (used ≤ length (now m)) × (used ≤ length (now index) * indexBlockSize) × (walked (indexRule (now m)) (now m) used ≡ Blocks n) × Table indexHead indexBlockSize (now m) n (now index) ⌝ }
-    ensures { λ r. ⌜ r ≡ slotsJudged (now (m .entry)) used n ⌝ }
+// The first free slot of the first s + 1, of which slot s stands at a place, by that of the first s; the number of slots where none is free.
+fn first_free(m: &[u8], at: usize, free: usize, s: usize) -> usize
+    requires { ⌜ (at + slotSize ≤ length (now m)) × (free ≤ s) × (s < 4294967296) ⌝ }
+    ensures { λ r. ⌜ ((p : ℕ → Bool) → free ≡ first p s → p s ≡ noLen (now (m .entry)) at → r ≡ first p (s + 1)) ⌝ }
+{
+    if free < s {
+        return free;
+    }
+    if u16_at(m, at + Slot::LEN) == 0 {
+        return s;
+    }
+    s + 1
+}
+
+// 7: the live slot at fault of lowest number. While no slot so far is free, `free` is the number of slots so far; it stays at the first that is.
+fn judge_slots(m: &[u8], used: usize, index: &[u32], n: usize) -> Examined
+    requires { ⌜ (headerSize ≤ used) × (used ≤ mapLimit) × (used ≤ length (now m)) × (used + indexPage ≤ length (now index) * indexPage) × (walked (indexRule (now m)) (now m) used ≡ Blocks n) × Filled indexPage used (now index) × Table indexHead indexPage (now m) n (now index) ⌝ }
+    ensures { λ r. ⌜ r ≡ withFree (now (m .entry)) (unless (slotsJudged (now (m .entry)) used n) (Accepted n)) ⌝ }
 {
     let version = u16_at(m, Header::VERSION);
     let mut at = u32_at(m, Header::INDEX) as usize + 4;
+    let mut free = 0;
     let mut s = 0;
     while s < 256 * n {
         if bad_slot(m, used, version, index, at) {
-            return Judged::Bad {
+            return Examined::Refused {
                 number: 7,
                 place: at as u32,
             };
         }
+        free = first_free(m, at, free, s);
         at = next_cell(m, at, s, Slot::SIZE);
         s += 1;
     }
-    Judged::Good
+    Examined::Accepted { blocks: n, free }
 }
 
 // Whether a symbol record is good.
 fn symbol_good(m: &[u8], used: usize, index: &[u32], at: usize) -> bool
-    requires { ⌜ (at < 4294967296) × (used ≤ mapLimit) × (used ≤ length (now m)) × (used ≤ length (now index) * indexBlockSize) × Placed indexBlockSize (now index) ⌝ }
+    requires { ⌜ (at < 4294967296) × (used ≤ mapLimit) × (used ≤ length (now m)) × (used + indexPage ≤ length (now index) * indexPage) × Filled indexPage used (now index) ⌝ }
     ensures { λ r. ⌜ r ≡ symbolGood (tableMeets indexBlockSize (now (index .entry))) (now (m .entry)) used at ⌝ }
 {
     if at < Header::SIZE {
@@ -248,12 +272,12 @@ fn symbol_good(m: &[u8], used: usize, index: &[u32], at: usize) -> bool
     if used < at + size as usize {
         return false;
     }
-    !meets_block(index, IndexBlock::SIZE, at, size as usize)
+    !meets_block(index, IndexBlock::PAGE, IndexBlock::SIZE, at, size as usize)
 }
 
 // Whether the symbol entry at a place is used and its record is not good.
 fn bad_entry(m: &[u8], used: usize, index: &[u32], at: usize) -> bool
-    requires { ⌜ (at + entrySize ≤ length (now m)) × (used ≤ mapLimit) × (used ≤ length (now m)) × (used ≤ length (now index) * indexBlockSize) × Placed indexBlockSize (now index) ⌝ }
+    requires { ⌜ (at + entrySize ≤ length (now m)) × (used ≤ mapLimit) × (used ≤ length (now m)) × (used + indexPage ≤ length (now index) * indexPage) × Filled indexPage used (now index) ⌝ }
     ensures { λ r. ⌜ r ≡ badEntry (tableMeets indexBlockSize (now (index .entry))) (now (m .entry)) used at ⌝ }
 {
     let p = u32_at(m, at) as usize;
@@ -265,7 +289,7 @@ fn bad_entry(m: &[u8], used: usize, index: &[u32], at: usize) -> bool
 
 // 6, of the first k symbol blocks: the first entry at fault.
 fn judge_entries(m: &[u8], used: usize, index: &[u32], n: usize, k: usize) -> Judged
-    requires { ⌜ (headerSize ≤ used) × (used ≤ mapLimit) × (used ≤ length (now m)) × (used ≤ length (now index) * indexBlockSize) × Table indexHead indexBlockSize (now m) n (now index) × (k ≡ taken (symbolRule (now m) n) (now m) used) ⌝ }
+    requires { ⌜ (headerSize ≤ used) × (used ≤ mapLimit) × (used ≤ length (now m)) × (used + indexPage ≤ length (now index) * indexPage) × Filled indexPage used (now index) × Table indexHead indexPage (now m) n (now index) × (k ≡ taken (symbolRule (now m) n) (now m) used) ⌝ }
     ensures { λ r. ⌜ r ≡ entriesJudged (now (m .entry)) used n k ⌝ }
 {
     let mut at = u32_at(m, Header::SYMBOLS) as usize + 4;
@@ -290,15 +314,17 @@ fn symbol_kind() -> Kind
     Kind {
         head: Header::SYMBOLS,
         size: SymbolBlock::SIZE,
+        page: SymbolBlock::PAGE,
         first: 0,
         first_size: 0,
         second: 0,
         second_size: 0,
         other_size: IndexBlock::SIZE,
+        other_page: IndexBlock::PAGE,
     }
 }
 
-// The chain of index blocks, as a kind: its blocks keep off setup and info.
+// The chain of index blocks, as a kind: its blocks keep off setup and info. The other table is empty.
 fn index_kind(h: Header) -> Kind
     ensures { λ r. ⌜ r ≡ indexKind h ⌝ }
 {
@@ -307,20 +333,22 @@ fn index_kind(h: Header) -> Kind
     Kind {
         head: Header::INDEX,
         size: IndexBlock::SIZE,
+        page: IndexBlock::PAGE,
         first: setup.at as usize,
         first_size: setup.size as usize,
         second: info.at as usize,
         second_size: info.size as usize,
-        other_size: 65536,
+        other_size: IndexBlock::SIZE,
+        other_page: Header::LIMIT,
     }
 }
 
-// 6: the symbol blocks and their entries.
-fn judge_symbols(m: &[u8], used: usize, index: &[u32], n: usize) -> Judged
-    requires { ⌜ (headerSize ≤ used) × (used ≤ mapLimit) × (used ≤ length (now m)) × (used ≤ length (now index) * indexBlockSize) × Table indexHead indexBlockSize (now m) n (now index) ⌝ }
+// 6: the symbol blocks and their entries, with a table of the blocks.
+fn judge_symbol_blocks(m: &[u8], used: usize, index: &[u32], n: usize) -> Judged
+    requires { ⌜ (headerSize ≤ used) × (used ≤ mapLimit) × (used ≤ length (now m)) × (used + indexPage ≤ length (now index) * indexPage) × Filled indexPage used (now index) × Table indexHead indexPage (now m) n (now index) ⌝ }
     ensures { λ r. ⌜ r ≡ symbolsJudged (now (m .entry)) used n ⌝ }
 {
-    let mut t = [0u32; SymbolBlock::BUCKETS];
+    let mut t = [0u32; SymbolBlock::TABLE];
     let w = walk_chain(m, used, symbol_kind(), index, &mut t);
     match w {
         Walk::Blocks(k) => judge_entries(m, used, index, n, k),
@@ -337,49 +365,81 @@ fn judge_symbols(m: &[u8], used: usize, index: &[u32], n: usize) -> Judged
     }
 }
 
+// 6: a map without symbol blocks needs no table of them.
+fn judge_symbols(m: &[u8], used: usize, index: &[u32], n: usize) -> Judged
+    requires { ⌜ (headerSize ≤ used) × (used ≤ mapLimit) × (used ≤ length (now m)) × (used + indexPage ≤ length (now index) * indexPage) × Filled indexPage used (now index) × Table indexHead indexPage (now m) n (now index) ⌝ }
+    ensures { λ r. ⌜ r ≡ symbolsJudged (now (m .entry)) used n ⌝ }
+{
+    if u32_at(m, Header::SYMBOLS) == 0 {
+        return Judged::Good;
+    }
+    judge_symbol_blocks(m, used, index, n)
+}
+
 // 6, then 7, of a map whose index blocks are good.
-fn judge_objects(m: &[u8], used: usize, index: &[u32], n: usize) -> Verdict
-    requires { ⌜ (headerSize ≤ used) × (used ≤ mapLimit) × (used ≤ length (now m)) × (used ≤ length (now index) * indexBlockSize) × (walked (indexRule (now m)) (now m) used ≡ Blocks n) × Table indexHead indexBlockSize (now m) n (now index) ⌝ }
-    ensures { λ r. ⌜ r ≡ afterIndex (now (m .entry)) used (Blocks n) ⌝ }
+fn judge_objects(m: &[u8], used: usize, index: &[u32], n: usize) -> Examined
+    requires { ⌜ (headerSize ≤ used) × (used ≤ mapLimit) × (used ≤ length (now m)) × (used + indexPage ≤ length (now index) * indexPage) × (walked (indexRule (now m)) (now m) used ≡ Blocks n) × Filled indexPage used (now index) × Table indexHead indexPage (now m) n (now index) ⌝ }
+    ensures { λ r. ⌜ r ≡ withFree (now (m .entry)) (afterIndex (now (m .entry)) used (Blocks n)) ⌝ }
 {
     let symbols = judge_symbols(m, used, index, n);
     match symbols {
-        Judged::Bad { number, place } => Verdict::Refused { number, place },
-        Judged::Good => {
-            let slots = judge_slots(m, used, index, n);
-            match slots {
-                Judged::Bad { number, place } => Verdict::Refused { number, place },
-                Judged::Good => Verdict::Accepted { blocks: n },
-            }
-        }
+        Judged::Bad { number, place } => Examined::Refused { number, place },
+        Judged::Good => judge_slots(m, used, index, n),
     }
 }
 
-// 5: the index blocks; then the rest. The table has the index blocks where the map is accepted.
-fn judge_index(m: &[u8], used: usize, index: &mut [u32]) -> Verdict
-    requires { ⌜ (headerSize ≤ used) × (used ≤ mapLimit) × (used ≤ length (now m)) × (used ≤ length (now index) * indexBlockSize) × Empty (now index) ⌝ }
-    ensures { λ r. ⌜ (r ≡ afterIndex (now (m .entry)) used (walked (indexRule (now (m .entry))) (now (m .entry)) used)) × ((n : ℕ) → r ≡ Accepted n → Table indexHead indexBlockSize (now (m .entry)) n (now (index .exit))) ⌝ }
+// 6, then 7, of a map whose index blocks are good. Their table is filled first.
+fn judge_rest(m: &[u8], used: usize, index: &mut [u32], n: usize) -> Examined
+    requires { ⌜ (headerSize ≤ used) × (used ≤ mapLimit) × (used ≤ length (now m)) × (used + indexPage ≤ length (now index) * indexPage) × (walked (indexRule (now m)) (now m) used ≡ Blocks n) × Placed indexPage (now index) × Table indexHead indexPage (now m) n (now index) ⌝ }
+    ensures { λ r. ⌜ (r ≡ withFree (now (m .entry)) (afterIndex (now (m .entry)) used (Blocks n))) × Filled indexPage used (now (index .exit)) × Table indexHead indexPage (now (m .entry)) n (now (index .exit)) ⌝ }
 {
-    let none = [0u32; 257];
+    fill(index, (used - 1) / IndexBlock::PAGE + 2);
+    judge_objects(m, used, index, n)
+}
+
+// 5: the index blocks; then the rest. The table has the index blocks, filled, where the map is accepted.
+fn judge_index(m: &[u8], used: usize, index: &mut [u32]) -> Examined
+    requires { ⌜ (headerSize ≤ used) × (used ≤ mapLimit) × (used ≤ length (now m)) × (used + indexPage ≤ length (now index) * indexPage) × Empty (now index) ⌝ }
+    ensures { λ r. ⌜ (r ≡ withFree (now (m .entry)) (afterIndex (now (m .entry)) used (walked (indexRule (now (m .entry))) (now (m .entry)) used))) × ((n free : ℕ) → r ≡ examined.Accepted n free → Filled indexPage used (now (index .exit)) × Table indexHead indexPage (now (m .entry)) n (now (index .exit))) ⌝ }
+{
+    let none = [0u32; 2];
     let w = walk_chain(m, used, index_kind(Header::of(m)), &none, index);
     match w {
-        Walk::Blocks(n) => judge_objects(m, used, index, n),
-        Walk::Fault { place, taken: _ } => Verdict::Refused {
+        Walk::Blocks(n) => judge_rest(m, used, index, n),
+        Walk::Fault { place, taken: _ } => Examined::Refused {
             number: 5,
             place: place as u32,
         },
     }
 }
 
-// The check, with a lent table, empty before, that has the index blocks afterwards where the map is accepted.
-pub fn examine(m: &[u8], used: usize, index: &mut [u32]) -> Verdict
-    requires { ⌜ (mapLimit ≤ length (now index) * indexBlockSize) × Empty (now index) ⌝ }
-    ensures { λ r. ⌜ (r ≡ verdict (now (m .entry)) used) × ((n : ℕ) → r ≡ Accepted n → Table indexHead indexBlockSize (now (m .entry)) n (now (index .exit))) ⌝ }
+// The check, with a lent table, empty before, that has the index blocks, filled, afterwards where the map is accepted.
+pub fn examine(m: &[u8], used: usize, index: &mut [u32]) -> Examined
+    requires { ⌜ (mapLimit + indexPage ≤ length (now index) * indexPage) × Empty (now index) ⌝ }
+    ensures { λ r. ⌜ (r ≡ withFree (now (m .entry)) (verdict (now (m .entry)) used)) × ((n free : ℕ) → r ≡ examined.Accepted n free → Filled indexPage used (now (index .exit)) × Table indexHead indexPage (now (m .entry)) n (now (index .exit))) ⌝ }
 {
     let j = judge_header(m, used);
     match j {
-        Judged::Bad { number, place } => Verdict::Refused { number, place },
+        Judged::Bad { number, place } => Examined::Refused { number, place },
         Judged::Good => judge_index(m, used, index),
+    }
+}
+
+// 5, 6 and 7 of a map whose header is good. Where it has neither index blocks nor symbol blocks no table is needed.
+fn judge_chains(m: &[u8], used: usize) -> Verdict
+    requires { ⌜ (headerSize ≤ used) × (used ≤ mapLimit) × (used ≤ length (now m)) ⌝ }
+    ensures { λ r. ⌜ r ≡ afterIndex (now (m .entry)) used (walked (indexRule (now (m .entry))) (now (m .entry)) used) ⌝ }
+{
+    if u32_at(m, Header::INDEX) == 0 {
+        if u32_at(m, Header::SYMBOLS) == 0 {
+            return Verdict::Accepted { blocks: 0 };
+        }
+    }
+    let mut index = [0u32; IndexBlock::TABLE];
+    let e = judge_index(m, used, &mut index);
+    match e {
+        Examined::Accepted { blocks, free: _ } => Verdict::Accepted { blocks },
+        Examined::Refused { number, place } => Verdict::Refused { number, place },
     }
 }
 
@@ -387,6 +447,9 @@ pub fn examine(m: &[u8], used: usize, index: &mut [u32]) -> Verdict
 pub fn check(m: &[u8], used: usize) -> Verdict
     ensures { λ r. ⌜ r ≡ verdict (now (m .entry)) used ⌝ }
 {
-    let mut index = [0u32; IndexBlock::BUCKETS];
-    examine(m, used, &mut index)
+    let j = judge_header(m, used);
+    match j {
+        Judged::Bad { number, place } => Verdict::Refused { number, place },
+        Judged::Good => judge_chains(m, used),
+    }
 }

@@ -21,7 +21,6 @@ use Rattle.numbers.proofs.Ranges.{share-before}
 use Rattle.records.specs.Sizes.{headerSize}
 use Rattle.chain.specs.declared.Walk.the-variants.{Blocks}
 use Rattle.chain.specs.Chains.{Rule, place, block, meetsBlock, walked}
-use Rattle.chain.specs.Tables.{Table}
 use Rattle.chain.specs.Cells.{cellAt}
 use Rattle.chain.proofs.Chains.{Passed, Pass, pass-more, block-more, walked-is}
 use Rattle.chain.proofs.Cells.{links-apart}
@@ -62,15 +61,6 @@ module _ {h : ℕ} {m m′ : List ℕ} {n : ℕ} (e : Kept h m m′ n) where
   pub meets-kept : (s : ℕ) → meetsBlock h s m′ n ≡ meetsBlock h s m n
   unfolding meetsBlock
   meets-kept s = fun-ext (λ p. fun-ext (λ len. any-same (λ i. share (block h m′ i) s p len) (λ i. share (block h m i) s p len) n (λ i l. rw (blocks-kept i l))))
-
-  pub table-kept : {s : ℕ} {t : List ℕ} → Table h s m n t → Table h s m′ n t
-  table-kept {s} {t} w =
-      record {
-        placed = w .placed;
-        real = λ i l z. w .real i l (sym (blocks-kept i l) ∙ z);
-        sound = λ b z. let g = w .sound b z in (g .0, g .1, g .2 ∙ sym (blocks-kept (g .0) (g .1)));
-        whole = λ i l. rw (blocks-kept i l) (w .whole i l);
-      }
 
 -- a run of stores inside a cell leaves every link, the last one too
 pub store-kept : {r : Rule} {m : List ℕ} {used n : ℕ} → Pass r m used n → (w : ℕ) → 4 + 256 * w ≤ r .size → r .head + 4 ≤ headerSize → (c : ℕ) → c < 256 * n → (vs : List ℕ) (at : ℕ) → cellAt (r .head) w m c ≤ at → at + length vs ≤ cellAt (r .head) w m c + w → Kept (r .head) m (sets m at vs) (n + 1)

@@ -1,6 +1,7 @@
 -- The laws of the definitions in specs/: no one function's own.
 --     Pigeon     how many ranges fit, and division by any positive number
 --     Tables     the table of the blocks
+--     Filling    the filled table
 --     Chains     links, blocks, and what the walk answers
 --     Walking    the invariant of a walk
 --     Cells      where the cells stand
@@ -8,6 +9,7 @@
 --     AsList     the chain as a list of blocks
 pub mod Pigeon
 pub mod Tables
+pub mod Filling
 pub mod Chains
 pub mod Walking
 pub mod Cells

@@ -87,6 +87,10 @@ div-mono {a} {b} k z h =
 pub div-lt : (a b k : ℕ) → 0 < k → a / k < b / k → a < b
 div-lt a b k z l = lt-of-not-le (λ h. not-le-of-lt l (div-mono k z h))
 
+-- a number whose quotient is below b is below b times the divisor
+pub div-below : (a b k : ℕ) → 0 < k → a / k < b → a < b * k
+div-below a b k z l = div-lt-iff-lt-mul {k = k} {x = a} {y = b} z .0 l
+
 -- two numbers with the same quotient are less than the divisor apart
 pub div-near : (a b k : ℕ) → 0 < k → a / k ≡ b / k → a < b + k
 div-near a b k z e =
@@ -113,6 +117,6 @@ blocks-fit b sz lo hi n z inside apart = pigeon (λ i. (b i - lo) / sz) n same (
         let q = div-near (b j - lo) (b i - lo) sz z (sym e) in
         share-no (apart i j l h) z z (omega arith) (omega arith)
 
--- a place before the end has its bucket in the table
-pub bucket-in : (k x n : ℕ) → 0 < k → x < n * k → x / k < n
-bucket-in k x n z l = div-lt-iff-lt-mul {k = k} {x = x} {y = n} z .1 l
+-- a place before the end has its page in a table that is one entry longer than there are pages
+pub page-in : (k x n : ℕ) → 0 < k → x + k < n * k → x / k + 1 < n
+page-in k x n z l = rw (← add-div-right x z) (div-lt-iff-lt-mul {k = k} {x = x + k} {y = n} z .1 l)

@@ -1,21 +1,27 @@
--- The table of the blocks of a chain, by which a range is tested against all of them in steps that grow with the range alone. Bucket b has the block that
--- starts in [b * n, (b + 1) * n), n the bytes of a block, or 0. Blocks that share no byte start at least n apart, so a bucket holds at most one.
+-- The table of the blocks of a chain, by which a range is tested against all of them. The map is cut into pages of w bytes, w at most the bytes of a block.
+-- Blocks that share no byte start at least a block apart, so in a page at most one starts. Entry b + 1 has the block that starts in page b, or 0; entry 0 is 0.
+-- After the walk the table is filled: each entry that has no block gets the one before it. Entry b is then the last block that starts before page b, and a
+-- range of any length is tested in one step.
 --     Empty t                   no block yet
---     Placed n t                each entry is 0 or stands in its own bucket
---     Table h n m k t           the entries are exactly the first k blocks of the chain whose first link stands at h
---     entryMeets n t p len b    whether the entry of bucket b shares a byte with the len bytes from p on
+--     Placed w t                each entry is 0 or stands at its own page
+--     Table h w m k t           the entries are exactly the first k blocks of the chain whose first link stands at h, each at its own page at least
+--     lastBelow t b             the last entry below b that is not 0, or 0
+--     Carried k t t′            t′ is t with its first k entries filled
+--     Filled w end t            every entry is a block that starts before its page, and the last such one where the page before starts before `end`
+--     lastBefore w t end        by a filled table: the last block that starts before `end`, or 0
+--     entryMeets n t p len b    whether entry b, a block of n bytes, shares a byte with the len bytes from p on
 --     tableMeets n t p len      whether some entry does
 --     keepsOff k other p        the test of a kind of chain in the code: whether a block at p shares a byte with its two ranges or a block of another table
 --     kindRule k other          that kind as a rule
 --     goodBlock r t used p      whether p can be a block of the map, by the table of the blocks before it
 --     Bounds k end other        what the test of a kind needs of a block that ends at `end`: numbers small enough, and another table that reaches as far
 --     Ready k used other t      what a walk needs: the same for every block of the map, and a table of its own that reaches as far
-use Prim.Native.Nat.{ℕ, _+_, _*_, _/_, _≤_, _<_}
-use mathlib.Core.Bool.{Bool, not, _&&_, _||_}
+use Prim.Native.Nat.{ℕ, zero, suc, _+_, _-_, _*_, _/_, _≤_, _<_}
+use mathlib.Core.Bool.{Bool, not, cond, _&&_, _||_}
 use mathlib.Core.List.{List}
 use mathlib.Core.Path.{_≡_}
 use lib.ListN.{getD, length}
-use lib.Dec.{eqb}
+use lib.Dec.{eqb, ltb}
 use Rattle.numbers.specs.Ranges.{share}
 use Rattle.numbers.specs.Below.{any}
 use Rattle.records.specs.Sizes.{headerSize, mapLimit}
@@ -25,14 +31,29 @@ use Rattle.chain.specs.Chains.{Rule, block, inside}
 abbrev pub Empty : List ℕ → Type 0
 Empty t = (b : ℕ) → getD t b 0 ≡ 0
 
-pub record Placed (n : ℕ) (t : List ℕ) : Type 0 where
-  pub own : (b : ℕ) → (getD t b 0 ≡ 0 → ⊥) → getD t b 0 / n ≡ b
+pub record Placed (w : ℕ) (t : List ℕ) : Type 0 where
+  pub own : (b : ℕ) → (getD t b 0 ≡ 0 → ⊥) → getD t b 0 / w + 1 ≡ b
 
-pub record Table (h n : ℕ) (m : List ℕ) (k : ℕ) (t : List ℕ) : Type 0 where
-  pub placed : Placed n t
+pub record Table (h w : ℕ) (m : List ℕ) (k : ℕ) (t : List ℕ) : Type 0 where
   pub real : (i : ℕ) → i < k → block h m i ≡ 0 → ⊥
   pub sound : (b : ℕ) → (getD t b 0 ≡ 0 → ⊥) → (i : ℕ) × (i < k) × (getD t b 0 ≡ block h m i)
-  pub whole : (i : ℕ) → i < k → getD t (block h m i / n) 0 ≡ block h m i
+  pub whole : (i : ℕ) → i < k → getD t (block h m i / w + 1) 0 ≡ block h m i
+
+unfoldable pub lastBelow : List ℕ → ℕ → ℕ
+lastBelow t zero = 0
+lastBelow t (suc b) = cond (eqb (getD t b 0) 0) (lastBelow t b) (getD t b 0)
+
+pub record Carried (k : ℕ) (t t′ : List ℕ) : Type 0 where
+  pub below : (b : ℕ) → b < k → getD t′ b 0 ≡ lastBelow t (b + 1)
+  pub above : (b : ℕ) → k ≤ b → getD t′ b 0 ≡ getD t b 0
+
+pub record Filled (w end : ℕ) (t : List ℕ) : Type 0 where
+  pub home : (b : ℕ) → (getD t b 0 ≡ 0 → ⊥) → (getD t b 0 / w + 1 ≤ b) × (getD t (getD t b 0 / w + 1) 0 ≡ getD t b 0)
+  pub last : (b c : ℕ) → b * w < end + w → (getD t c 0 ≡ 0 → ⊥) → getD t c 0 / w + 1 ≤ b → getD t c 0 ≤ getD t b 0
+
+unfoldable pub lastBefore : ℕ → List ℕ → ℕ → ℕ
+lastBefore w t end =
+    cond (ltb (getD t ((end - 1) / w + 1) 0) end) (getD t ((end - 1) / w + 1) 0) (getD t ((end - 1) / w) 0)
 
 unfoldable pub entryMeets : ℕ → List ℕ → ℕ → ℕ → ℕ → Bool
 entryMeets n t p len b = not (eqb (getD t b 0) 0) && share (getD t b 0) n p len
@@ -52,6 +73,7 @@ goodBlock r t used p = inside used (r .size) p && not (r .taboo p) && not (table
 
 pub record Bounds (k : Kind) (end : ℕ) (other : List ℕ) : Type 0 where
   pub most : end ≤ mapLimit
+  pub block-least : 4 ≤ k .size
   pub block-most : k .size ≤ 65536
   pub first-fits : k .first < 4294967296
   pub first-size-fits : k .«first_size» < 4294967296
@@ -59,12 +81,14 @@ pub record Bounds (k : Kind) (end : ℕ) (other : List ℕ) : Type 0 where
   pub second-size-fits : k .«second_size» < 4294967296
   pub other-least : 0 < k .«other_size»
   pub other-most : k .«other_size» ≤ 65536
-  pub other-wide : end ≤ length other * k .«other_size»
-  pub other-placed : Placed (k .«other_size») other
+  pub other-page : 0 < k .«other_page»
+  pub other-wide : end + k .«other_page» ≤ length other * k .«other_page»
+  pub other-filled : Filled (k .«other_page») end other
 
 pub record Ready (k : Kind) (used : ℕ) (other t : List ℕ) : Type 0 where
   pub bounds : Bounds k used other
   pub least : headerSize ≤ used
-  pub block-least : 4 ≤ k .size
   pub head-in : k .head + 4 ≤ headerSize
-  pub wide : used ≤ length t * k .size
+  pub page-least : 0 < k .page
+  pub page-most : k .page ≤ k .size
+  pub wide : used + k .page ≤ length t * k .page

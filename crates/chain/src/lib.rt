@@ -5,7 +5,7 @@ ghost use mathlib.Core.Path.{_≡_};
 ghost use Prim.Native.Nat.{ℕ, _+_, _-_, _*_, _%_, _≤_, _<_};
 ghost use lib.ListN.{length};
 ghost use Rattle.chain.specs.Chains.{block, walked, taken};
-ghost use Rattle.chain.specs.Tables.{Empty, Placed, Table, entryMeets, tableMeets, keepsOff, kindRule, goodBlock, Bounds, Ready};
+ghost use Rattle.chain.specs.Tables.{Empty, Placed, Table, Carried, Filled, lastBefore, entryMeets, tableMeets, keepsOff, kindRule, goodBlock, Bounds, Ready};
 ghost use Rattle.chain.specs.Cells.{cellAt, Ordered};
 
 // What a walk answers: the number of blocks; or the place of the first link at fault, and the number of blocks before it.
@@ -14,16 +14,18 @@ pub enum Walk {
     Fault { place: usize, taken: usize },
 }
 
-// A kind of chain: where its first link stands and the bytes of a block; and what its blocks keep off: two ranges, and the blocks of another table, of
-// `other_size` bytes each.
+// A kind of chain: where its first link stands, the bytes of a block, and of a page of its table; and what its blocks keep off: two ranges, and the blocks of
+// another table, filled, of `other_size` bytes each.
 pub struct Kind {
     pub head: usize,
     pub size: usize,
+    pub page: usize,
     pub first: usize,
     pub first_size: usize,
     pub second: usize,
     pub second_size: usize,
     pub other_size: usize,
+    pub other_page: usize,
 }
 
 fn wide(x: u32) -> usize
@@ -32,7 +34,7 @@ fn wide(x: u32) -> usize
     x as usize
 }
 
-// Whether the entry of bucket b shares a byte with the range.
+// Whether entry b shares a byte with the range.
 fn entry_meets(t: &[u32], size: usize, b: usize, start: usize, len: usize) -> bool
     requires { ⌜ (b < length (now t)) × (size ≤ 65536) × (start + len ≤ 16777216) ⌝ }
     ensures { λ r. ⌜ r ≡ entryMeets size (now (t .entry)) start len b ⌝ }
@@ -44,18 +46,15 @@ fn entry_meets(t: &[u32], size: usize, b: usize, start: usize, len: usize) -> bo
     numbers::ranges_share(e, size, start, len)
 }
 
-// Whether some block of the table shares a byte with the range: only the buckets that it can touch are looked at.
-pub fn meets_block(t: &[u32], size: usize, start: usize, len: usize) -> bool
-    requires { ⌜ (0 < size) × (size ≤ 65536) × (start + len ≤ 16777216) × (start + len ≤ length (now t) * size) × Placed size (now t) ⌝ }
+// Whether some block taken so far shares a byte with the range: only the pages in which such a block can start are looked at.
+fn meets_taken(t: &[u32], page: usize, size: usize, start: usize, len: usize) -> bool
+    requires { ⌜ (0 < page) × (size ≤ 65536) × (0 < len) × (start + len ≤ 16777216) × (start + len + page ≤ length (now t) * page) × Placed page (now t) ⌝ }
     ensures { λ r. ⌜ r ≡ tableMeets size (now (t .entry)) start len ⌝ }
 {
-    if len == 0 {
-        return false;
-    }
-    let last = (start + len - 1) / size;
-    let mut b = start / size;
-    if 0 < b {
-        b -= 1;
+    let last = (start + len - 1) / page + 1;
+    let mut b = 0;
+    if size <= start {
+        b = (start - size) / page + 1;
     }
     while b <= last {
         if entry_meets(t, size, b, start, len) {
@@ -64,6 +63,45 @@ pub fn meets_block(t: &[u32], size: usize, start: usize, len: usize) -> bool
         b += 1;
     }
     false
+}
+
+// Fills the first k entries: one that has no block gets the one before it, so that each has the last block that starts before its page.
+pub fn fill(t: &mut [u32], k: usize)
+    requires { ⌜ k ≤ length (now t) ⌝ }
+    ensures { λ r. ⌜ Carried k (now (t .entry)) (now (t .exit)) ⌝ }
+{
+    let mut last = 0;
+    let mut b = 0;
+    while b < k {
+        if t[b] == 0 {
+            t[b] = last;
+        }
+        last = t[b];
+        b += 1;
+    }
+}
+
+// The last block of a filled table that starts before `end`, or 0.
+fn last_before(t: &[u32], page: usize, end: usize) -> usize
+    requires { ⌜ (0 < page) × (0 < end) × (end + page ≤ length (now t) * page) ⌝ }
+    ensures { λ r. ⌜ (r ≡ lastBefore page (now (t .entry)) end) × (r < 4294967296) ⌝ }
+{
+    let b = (end - 1) / page;
+    let before = wide(t[b]);
+    let here = wide(t[b + 1]);
+    if here < end { here } else { before }
+}
+
+// Whether some block of a filled table shares a byte with the range, whatever its length: the last block that starts before the range's end also ends last.
+pub fn meets_block(t: &[u32], page: usize, size: usize, start: usize, len: usize) -> bool
+    requires { ⌜ (0 < page) × (0 < size) × (size ≤ 65536) × (0 < len) × (start + len ≤ 16777216) × (start + len + page ≤ length (now t) * page) × Filled page (start + len) (now t) ⌝ }
+    ensures { λ r. ⌜ r ≡ tableMeets size (now (t .entry)) start len ⌝ }
+{
+    let last = last_before(t, page, start + len);
+    if last == 0 {
+        return false;
+    }
+    start < last + size
 }
 
 // Whether a block at p would meet what its kind keeps off.
@@ -78,12 +116,12 @@ fn keeps_off(kind: Kind, other: &[u32], p: usize) -> bool
     if numbers::ranges_share(kind.second, kind.second_size, p, size) {
         return true;
     }
-    meets_block(other, kind.other_size, p, size)
+    meets_block(other, kind.other_page, kind.other_size, p, size)
 }
 
 // Whether p can be the next block of a chain, by the table of its blocks so far.
 fn can_be_block(kind: Kind, other: &[u32], t: &[u32], used: usize, p: usize) -> bool
-    requires { ⌜ Ready kind used (now other) (now t) × Placed (kind .size) (now t) × (p < 4294967296) ⌝ }
+    requires { ⌜ Ready kind used (now other) (now t) × Placed (kind .page) (now t) × (p < 4294967296) ⌝ }
     ensures { λ r. ⌜ r ≡ goodBlock (kindRule kind (now (other .entry))) (now (t .entry)) used p ⌝ }
 {
     let size = kind.size;
@@ -96,15 +134,15 @@ fn can_be_block(kind: Kind, other: &[u32], t: &[u32], used: usize, p: usize) -> 
     if keeps_off(kind, other, p) {
         return false;
     }
-    !meets_block(t, size, p, size)
+    !meets_taken(t, kind.page, size, p, size)
 }
 
-// The walk over a chain. The table is empty before, and has the blocks that were taken after.
+// The walk over a chain. The table is empty before, and has the blocks that were taken after, each at its own page.
 pub fn walk_chain(m: &[u8], used: usize, kind: Kind, other: &[u32], t: &mut [u32]) -> Walk
     requires { ⌜ (used ≤ length (now m)) × Ready kind used (now other) (now t) × Empty (now t) ⌝ }
-    ensures { λ r. ⌜ (r ≡ walked (kindRule kind (now (other .entry))) (now (m .entry)) used) × Table (kind .head) (kind .size) (now (m .entry)) (taken (kindRule kind (now (other .entry))) (now (m .entry)) used) (now (t .exit)) ⌝ }
+    ensures { λ r. ⌜ (r ≡ walked (kindRule kind (now (other .entry))) (now (m .entry)) used) × Placed (kind .page) (now (t .exit)) × Table (kind .head) (kind .page) (now (m .entry)) (taken (kindRule kind (now (other .entry))) (now (m .entry)) used) (now (t .exit)) ⌝ }
 {
-    let size = kind.size;
+    let page = kind.page;
     let mut n = 0;
     let mut at = kind.head;
     loop {
@@ -113,7 +151,7 @@ pub fn walk_chain(m: &[u8], used: usize, kind: Kind, other: &[u32], t: &mut [u32
             return Walk::Blocks(n);
         }
         if can_be_block(kind, other, t, used, p) {
-            t[p / size] = p as u32;
+            t[p / page + 1] = p as u32;
             at = p;
             n += 1;
         } else {

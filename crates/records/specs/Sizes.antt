@@ -12,12 +12,19 @@ indexBlockSize = 6148
 abbrev pub slotSize : ℕ
 slotSize = 24
 
+-- a table of index blocks goes by pages of so many bytes, fewer than a block has
+abbrev pub indexPage : ℕ
+indexPage = 4096
+
 -- a symbol block: a link of 4 bytes, then 256 entries
 abbrev pub symbolBlockSize : ℕ
 symbolBlockSize = 1028
 
 abbrev pub entrySize : ℕ
 entrySize = 4
+
+abbrev pub symbolPage : ℕ
+symbolPage = 1024
 
 -- a symbol record is at least so long: the part that all symbols have
 abbrev pub symbolRecordSize : ℕ

@@ -105,10 +105,12 @@ pub struct IndexBlock {
 
 impl IndexBlock {
     pub const SIZE: usize = 6148;
-    // The largest map has so many, and a table of them so many buckets.
+    // The largest map has so many.
     pub const MOST: usize = 2728;
+    // A table of them goes by pages of so many bytes, and has so many entries.
+    pub const PAGE: usize = 4096;
 
-    pub const BUCKETS: usize = 2729;
+    pub const TABLE: usize = 4097;
 
     pub fn new(at: usize) -> IndexBlock
         ensures { λ r. ⌜ r .at ≡ at ⌝ }
@@ -132,8 +134,10 @@ pub struct SymbolBlock {
 
 impl SymbolBlock {
     pub const SIZE: usize = 1028;
-    // A table of them has so many buckets.
-    pub const BUCKETS: usize = 16321;
+    // A table of them goes by pages of so many bytes, and has so many entries.
+    pub const PAGE: usize = 1024;
+
+    pub const TABLE: usize = 16385;
 
     pub const ENTRY: usize = 4;
 

@@ -1,8 +1,9 @@
 -- `accept::examine` meets its contract: the header's fault, or what the index blocks and all that follows are judged to be. Assumes nothing.
 use native.Mathlib.Omega.{arith}
-use mathlib.Core.Path.{sym, _∙_}
+use mathlib.Core.Path.{sym, ap, _∙_}
 use denote.Ref.{now}
 use Rattle.accept.specs.Verdicts.{verdict}
+use Rattle.accept.proofs.Slots.{plain}
 use Rattle.accept.proofs.Verdicts.{header-tells, refused}
 use borrow.Author.Needs.{needs}
 use Rattle.accept.proofs.examine.Statement.{statement}
@@ -17,7 +18,7 @@ judge-index-requires c κs =
 
 returns : tie.Need-returns
 unfolding verdict
-returns c = (rw (← c .before .before .before .judge-header .ensures, c .before .j .given .1), λ n e. absurd (refused e))
+returns c = (rw (← c .before .before .before .judge-header .ensures, c .before .j .given .1), λ n f e. absurd (refused (ap plain e)))
 
 returns-2 : tie.Need-returns-2
 unfolding verdict

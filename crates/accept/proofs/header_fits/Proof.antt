@@ -1,24 +1,27 @@
 -- `accept::header_fits` meets its contract: each test that fails settles the answer. Assumes nothing.
 use borrow.Author.Tests.{eq-eqb, ne-eqb}
 use Rattle.accept.specs.Judging.{headerFits}
-use Rattle.accept.proofs.Judging.{fails, passes}
+use Prim.Native.Nat.{_+_}
+use Rattle.accept.proofs.Judging.{fails, passes, pairs-by-bytes}
 use borrow.Author.Needs.{needs}
 use Rattle.accept.proofs.header_fits.Statement.{statement}
 use Rattle.accept.proofs.header_fits.Tie as tie
 
 returns : tie.Need-returns
 unfolding headerFits
-returns c = rw (ne-eqb _ _ (c .if1 .taken))
+returns c v g e = rw (ne-eqb _ _ (c .if1 .taken))
 
 returns-2 : tie.Need-returns-2
 unfolding headerFits
-returns-2 c = rw (eq-eqb _ _ (c .before .before .if1 .left), fails (c .before .type-good .ensures) (c .if2 .taken))
+returns-2 c v g e = rw (eq-eqb _ _ (c .before .before .if1 .left), fails (c .before .type-good .ensures) (c .if2 .taken))
 
 returns-3 : tie.Need-returns-3
 unfolding headerFits
-returns-3 c =
-    let k = c .before .before .before in
-    rw (eq-eqb _ _ (k .before .before .if1 .left), passes (k .before .type-good .ensures) (k .if2 .left), c .pairs-of .ensures)
+returns-3 c v g e =
+    let k = c .before .before in
+    let a = k .before .before .before .before .before .args in
+    rw (eq-eqb _ _ (k .before .before .if1 .left), passes (k .before .type-good .ensures) (k .if2 .left), e)
+    (pairs-by-bytes v (a .t .len) (a .h .items + a .h .texts) g)
 
 pub header-fits-spec : {M : Type 1} → statement M
 header-fits-spec =
@@ -30,5 +33,6 @@ header-fits-spec =
     (λ c. search needs)
     (λ c. search needs)
     (λ c. search needs)
-    (λ c κs. search needs)
+    (λ c. search needs)
+    (λ c. search needs)
     returns-3)

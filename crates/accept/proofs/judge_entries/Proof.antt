@@ -25,7 +25,7 @@ abbrev μ-loop : tie.MeasureT-loop
 loop-holds : tie.Need-loop-holds Inv-loop μ-loop
 loop-holds c =
     let s = c .before .before .before in
-    look-start (rw (s .pre .5) (taken-pass (symbolRule (now (s .args .m)) (s .args .n)) (now (s .args .m)) (s .args .used))) (omega arith) (c .u32-at .ensures)
+    look-start (rw (s .pre .6) (taken-pass (symbolRule (now (s .args .m)) (s .args .n)) (now (s .args .m)) (s .args .used))) (omega arith) (c .u32-at .ensures)
 
 -- where the entry of this turn lies
 lies : (c : tie.In-loop Inv-loop μ-loop) → let a = c .before .before .before .before .before .args in Lies (symbolRule (now (a .m)) (a .n)) (now (a .m)) (a .used) entrySize (c .before .loop .e)
@@ -33,12 +33,12 @@ lies c = look-lies (c .before .loop .inv) (c .loop-test .taken)
 
 -- what is known of it, by the chain in the place of the table
 told : (c : tie.After-bad-entry Inv-loop μ-loop) → let a = c .before .before .before .before .before .before .args in c .bad-entry .result ≡ badEntry (touches (now (a .m)) (a .n)) (now (a .m)) (a .used) (c .before .before .loop .at)
-told c = rw (← same-touch (c .before .before .before .before .before .before .pre .4)) (c .bad-entry .ensures)
+told c = rw (← same-touch (c .before .before .before .before .before .before .pre .5)) (c .bad-entry .ensures)
 
 bad-entry-requires : tie.Need-bad-entry-requires Inv-loop μ-loop
 bad-entry-requires c κs =
     let pre = c .before .before .before .before .before .pre in
-    (omega (arith, lies c .high, c .before .loop .inv .here), pre .1, pre .2, pre .3, pre .4 .placed)
+    (omega (arith, lies c .high, c .before .loop .inv .here), pre .1, pre .2, pre .3, pre .4)
 
 returns : tie.Need-returns Inv-loop μ-loop
 unfolding entriesJudged

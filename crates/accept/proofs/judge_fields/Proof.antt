@@ -42,7 +42,9 @@ judge-fields-spec =
     (λ c κs. search needs)
     returns-2
     (λ c κs. search needs)
+    (λ c. search needs)
     returns-3
     (λ c κs. search needs)
+    (λ c. search needs)
     returns-4
     returns-5)

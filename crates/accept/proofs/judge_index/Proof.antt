@@ -1,21 +1,25 @@
 -- `accept::judge_index` meets its contract: a link at fault, or what comes after the index blocks; and a map is accepted with as many blocks as the walk took,
 -- so the table has them. Assumes nothing.
 use native.Mathlib.Omega.{arith}
-use mathlib.Core.Path.{_≡_, sym, ap, _∙_}
+use mathlib.Core.Path.{_≡_, sym, ap, subst, _∙_}
 use lib.ListN.{replicate}
 use denote.Ref.{now}
 use borrow.Author.Needs.{needs}
-use Rattle.records.specs.Sizes.{indexBlockSize}
+use Rattle.records.specs.Sizes.{indexPage}
 use Rattle.records.specs.Headers.{indexHead}
+use Rattle.chain.specs.declared.Kind.{Kind}
+use Rattle.chain.specs.declared.Walk.{Walk}
 use Rattle.chain.specs.declared.Walk.the-variants.{Blocks, Fault}
 use Rattle.chain.specs.Chains.{walked, taken}
-use Rattle.chain.specs.Tables.{Table}
+use Rattle.chain.specs.Tables.{Placed, Table}
 use Rattle.chain.proofs.Tables.{zeros}
 use Rattle.chain.proofs.Walking.{table-of}
 use Rattle.accept.specs.Rules.{indexRule}
 use Rattle.accept.specs.Verdicts.{afterIndex}
 use Rattle.accept.proofs.Rules.{index-rule, index-ready, walk-by, fault-fits}
-use Rattle.accept.proofs.Verdicts.{after-tells, refused}
+use Rattle.accept.specs.Slots.{withFree}
+use Rattle.accept.proofs.Slots.{plain, verdict-of}
+use Rattle.accept.proofs.Verdicts.{blocksIn, after-tells, refused}
 use Rattle.accept.proofs.judge_index.Statement.{statement}
 use Rattle.accept.proofs.judge_index.Tie as tie
 
@@ -25,16 +29,16 @@ walk-chain-requires c κs =
     let b = k .before .before .before in
     let s = b .before in (
       s .pre .2,
-      index-ready (now (s .args .m)) (k .before .of .ensures) (k .index-kind .ensures) (replicate 257 0) (zeros 257) (λ i. b .shared-slice-known .given i .fits) (s .pre .0) (s .pre .1) (omega arith) (s .pre .3),
+      index-ready (now (s .args .m)) (k .before .of .ensures) (k .index-kind .ensures) (replicate 2 0) (zeros 2) (λ i. b .shared-slice-known .given i .fits) (s .pre .0) (s .pre .1) (omega arith) (s .pre .3),
       s .pre .4,
     )
 
 -- the walk's answer and its table, by the rule
-walk : (c : tie.After-walk-chain) → let a = c .before .before .before .before .before .before .before .args in (walked (indexRule (now (a .m))) (now (a .m)) (a .used) ≡ c .walk-chain .result) × Table indexHead indexBlockSize (now (a .m)) (taken (indexRule (now (a .m))) (now (a .m)) (a .used)) (c .walk-chain .last .1 .1 .1 .1 .0)
+walk : (c : tie.After-walk-chain) → let a = c .before .before .before .before .before .before .before .args in (walked (indexRule (now (a .m))) (now (a .m)) (a .used) ≡ c .walk-chain .result) × Placed indexPage (c .walk-chain .last .1 .1 .1 .1 .0) × Table indexHead indexPage (now (a .m)) (taken (indexRule (now (a .m))) (now (a .m)) (a .used)) (c .walk-chain .last .1 .1 .1 .1 .0)
 walk c =
     let k = c .before .before .before in
     let a = k .before .before .before .before .args in
-    walk-by (a .used) (index-rule (now (a .m)) (k .before .of .ensures) (k .index-kind .ensures) (replicate 257 0) (zeros 257)) (c .walk-chain .ensures)
+    walk-by (a .used) (index-rule (now (a .m)) (k .before .of .ensures) (k .index-kind .ensures) (replicate 2 0) (zeros 2)) (ap (λ (x : Kind). x .page) (k .index-kind .ensures)) (c .walk-chain .ensures)
 
 whole : (c : tie.After-w) → let a = c .before .before .before .before .before .before .before .before .before .before .before .args in walked (indexRule (now (a .m))) (now (a .m)) (a .used) ≡ Blocks (c .w .given .0 .0)
 whole c = walk (c .before .before .before .before) .0 ∙ c .w .given .1
@@ -42,12 +46,12 @@ whole c = walk (c .before .before .before .before) .0 ∙ c .w .given .1
 fault : (c : tie.After-w2) → let a = c .before .before .before .before .before .before .before .before .before .before .before .args in walked (indexRule (now (a .m))) (now (a .m)) (a .used) ≡ Fault (c .w2 .given .0 .0) (c .w2 .given .0 .1 .0)
 fault c = walk (c .before .before .before .before) .0 ∙ c .w2 .given .1
 
-judge-objects-requires : tie.Need-judge-objects-requires
-judge-objects-requires c κs =
+judge-rest-requires : tie.Need-judge-rest-requires
+judge-rest-requires c κs =
     let w = c .before .before in
     let k = w .before .before .before .before in
     let s = k .before .before .before .before .before .before .before in
-    (s .pre .0, s .pre .1, s .pre .2, omega (arith, s .pre .3, k .walk-chain .kept .1 .1 .1 .1 .0), whole w, table-of (indexRule (now (s .args .m))) (now (s .args .m)) (s .args .used) (whole w) (walk k .1))
+    (s .pre .0, s .pre .1, s .pre .2, omega (arith, s .pre .3, k .walk-chain .kept .1 .1 .1 .1 .0), whole w, walk k .1, table-of (indexRule (now (s .args .m))) (now (s .args .m)) (s .args .used) (whole w) (walk k .2))
 
 cast-t17 : tie.Need-cast-t17
 cast-t17 c =
@@ -58,19 +62,21 @@ cast-t17 c =
 
 returns : tie.Need-returns
 returns c =
-    let w = c .before .before .before in
+    let w = c .before .before .before .before .before in
     let k = w .before .before .before .before in
-    let a = k .before .before .before .before .before .before .before .args in (
-      c .judge-objects .ensures ∙ ap (afterIndex (now (a .m)) (a .used)) (sym (whole w)),
-      λ n e.
-          table-of (indexRule (now (a .m))) (now (a .m)) (a .used) (whole w ∙ after-tells (now (a .m)) (a .used) (Blocks (w .w .given .0 .0)) (sym (c .judge-objects .ensures) ∙ e) .0) (walk k .1),
+    let a = k .before .before .before .before .before .before .before .args in
+    let e = c .before .before .judge-rest .ensures in (
+      e .0 ∙ ap (λ (x : Walk). withFree (now (a .m)) (afterIndex (now (a .m)) (a .used) x)) (sym (whole w)),
+      λ n f h.
+          let q = after-tells (now (a .m)) (a .used) (Blocks (w .w .given .0 .0)) (sym (verdict-of (now (a .m)) (afterIndex (now (a .m)) (a .used) (Blocks (w .w .given .0 .0))) (e .0)) ∙ ap plain h) .0 in
+          (e .1, subst (λ (x : Walk). Table indexHead indexPage (now (a .m)) (blocksIn x) (c .before .before .judge-rest .last .1 .1 .0)) q (e .2)),
     )
 
 returns-2 : tie.Need-returns-2
 unfolding afterIndex
 returns-2 c =
     let a = c .before .before .before .before .before .before .before .before .before .before .before .before .args in
-    (sym (ap (afterIndex (now (a .m)) (a .used)) (fault (c .before))), λ n e. absurd (refused e))
+    (sym (ap (λ (x : Walk). withFree (now (a .m)) (afterIndex (now (a .m)) (a .used) x)) (fault (c .before))), λ n f e. absurd (refused (ap plain e)))
 
 pub judge-index-spec : {M : Type 1} → statement M
 judge-index-spec =
@@ -81,7 +87,7 @@ judge-index-spec =
     (λ c. search needs)
     walk-chain-requires
     (λ c. search needs)
-    judge-objects-requires
+    judge-rest-requires
     (λ c. search needs)
     cast-t17
     (λ c. search needs)

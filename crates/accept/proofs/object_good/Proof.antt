@@ -6,6 +6,7 @@ use denote.Ref.{now}
 use Rattle.records.specs.Sizes.{objectHeaderSize}
 use lib.ListN.{length, length-take, length-drop}
 use Rattle.numbers.proofs.Ranges.{within-low, within-high, within-is}
+use Rattle.chain.proofs.Filling.{filled-less}
 use Rattle.accept.specs.Judging.{objectGood}
 use Rattle.accept.proofs.Judging.{object-part, bytes-least, bytes-most}
 use borrow.Author.Needs.{needs}
@@ -22,6 +23,13 @@ add-if2 c = let a = c .before .before .before .before .before .args in omega (ar
 returns-2 : tie.Need-returns-2
 unfolding objectGood
 returns-2 c = rw (← c .before .before .bytes-in .ensures, within-high _ _ _ _ (c .if2 .taken))
+
+meets-block-requires : tie.Need-meets-block-requires
+meets-block-requires c κs =
+    let b = c .before .before in
+    let s = b .before .before .before .before in
+    let l = bytes-least (s .args .version) (s .args .t .len) (s .pre .4) in
+    (omega arith, omega arith, omega arith, omega (arith, l, b .bytes-in .ensures), omega arith, omega arith, filled-less (omega arith) (s .pre .3))
 
 returns-3 : tie.Need-returns-3
 unfolding objectGood
@@ -52,7 +60,7 @@ returns-4 c =
       ← object-part (now (a .m)) (a .t .position) (room (c .before .before .before)),
       ← c .before .of .ensures,
     )
-    (c .header-fits .ensures)
+    (c .header-fits .ensures (a .version) (k .before .before .before .before .before .before .pre .4) (k .before .before .bytes-in .ensures))
 
 pub object-good-spec : {M : Type 1} → statement M
 object-good-spec =
@@ -63,7 +71,7 @@ object-good-spec =
     returns
     add-if2
     returns-2
-    (λ c κs. search needs)
+    meets-block-requires
     returns-3
     (λ c. search needs)
     (λ c. search needs)

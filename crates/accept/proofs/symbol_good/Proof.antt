@@ -1,7 +1,9 @@
 -- `accept::symbol_good` meets its contract: each test that fails settles the answer, and the last one is the table's. Assumes nothing.
 use Rattle.numbers.proofs.Ranges.{within-low, within-high, within-is}
+use Rattle.chain.proofs.Filling.{filled-less}
 use Rattle.accept.specs.Judging.{symbolGood}
-use Rattle.accept.proofs.Judging.{fails, passes}
+use Rattle.accept.proofs.Judging.{fails, passes, size-two}
+use native.Mathlib.Omega.{arith}
 use borrow.Author.Needs.{needs}
 use Rattle.accept.proofs.symbol_good.Statement.{statement}
 use Rattle.accept.proofs.symbol_good.Tie as tie
@@ -32,6 +34,13 @@ returns-4 c =
       within-high _ _ _ _ (c .if4 .taken),
     )
 
+-- a size that is good is not 0
+meets-block-requires : tie.Need-meets-block-requires
+meets-block-requires c κs =
+    let s = c .before .before .before .before .before .before .before .before in
+    let l = size-two _ (passes (c .before .before .size-good .ensures) (c .before .if3 .left)) in
+    (omega arith, omega arith, omega arith, omega arith, omega arith, omega arith, filled-less (omega arith) (s .pre .4))
+
 returns-5 : tie.Need-returns-5
 unfolding symbolGood
 returns-5 c =
@@ -60,5 +69,5 @@ symbol-good-spec =
     (λ c. search needs)
     returns-4
     (λ c. search needs)
-    (λ c κs. search needs)
+    meets-block-requires
     returns-5)

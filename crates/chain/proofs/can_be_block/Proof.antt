@@ -4,6 +4,7 @@ use mathlib.Core.Path.{sym, ap, _∙_}
 use mathlib.Core.Bool.{not}
 use denote.Ref.{now}
 use Rattle.chain.specs.Tables.{kindRule}
+use Rattle.chain.proofs.Filling.{bounds-less}
 use Rattle.chain.proofs.Walking.{good-low, good-high, good-taboo, good-is}
 use borrow.Author.Needs.{needs}
 use Rattle.chain.proofs.can_be_block.Statement.{statement}
@@ -23,7 +24,7 @@ returns-3 c =
 returns-4 : tie.Need-returns-4
 returns-4 c =
     let a = c .before .before .before .before .before .before .before .args in
-    ap not (c .meets-block .ensures) ∙ sym (good-is (kindRule (a .kind) (now (a .other))) (now (a .t)) (a .used) (a .p) (omega arith) (omega arith) (sym (c .before .before .keeps-off .ensures) ∙ c .before .if3 .left))
+    ap not (c .meets-taken .ensures) ∙ sym (good-is (kindRule (a .kind) (now (a .other))) (now (a .t)) (a .used) (a .p) (omega arith) (omega arith) (sym (c .before .before .keeps-off .ensures) ∙ c .before .if3 .left))
 
 pub can-be-block-spec : {M : Type 1} → statement M
 can-be-block-spec =
@@ -32,7 +33,7 @@ can-be-block-spec =
     returns
     (λ c. search needs)
     returns-2
-    (λ c κs. search needs)
+    (λ c κs. let s = c .before .before .before .before in bounds-less (omega arith) (s .pre .0 .bounds))
     returns-3
     (λ c κs. search needs)
     returns-4)

@@ -14,10 +14,10 @@ use Rattle.chain.proofs.walk_chain.Statement.{statement}
 use Rattle.chain.proofs.walk_chain.Tie as tie
 
 abbrev Inv-loop : tie.InvT-loop
-Inv-loop m used kind other t₀ size n₀ at₀ t n at = (length t ≡ length t₀) × Ready kind used other t × Walking (kindRule kind other) m used t n at
+Inv-loop m used kind other t₀ page n₀ at₀ t n at = (length t ≡ length t₀) × Ready kind used other t × Walking (kindRule kind other) (kind .page) m used t n at
 
 abbrev μ-loop : tie.MeasureT-loop
-μ-loop m used kind other t₀ size n₀ at₀ t n at = (used - headerSize) / size - n
+μ-loop m used kind other t₀ page n₀ at₀ t n at = (used - headerSize) / kind .size - n
 
 -- what is read at the link
 read : (c : tie.After-wide Inv-loop μ-loop) → c .wide .result ≡ u32At (now (c .before .before .before .before .before .before .args .m)) (c .before .before .loop .at)
@@ -27,23 +27,23 @@ read c = c .wide .ensures .0 ∙ c .before .u32-at .ensures
 on : (c : tie.Then2 Inv-loop μ-loop) → On (c .before .before .before .before .before .before .loop .inv .2) (read (c .before .before .before .before))
 on c =
     let l = c .before .before .before .before .before .before .loop in
-    walk-on (l .inv .2) (read (c .before .before .before .before)) (l .inv .1 .block-least) (l .inv .1 .wide) (c .before .before .before .if1 .left) (c .before .can-be-block .ensures) (c .if2 .taken)
+    walk-on (l .inv .2) (read (c .before .before .before .before)) (l .inv .1 .bounds .block-least) (l .inv .1 .page-least) (l .inv .1 .page-most) (l .inv .1 .wide) (c .before .before .before .if1 .left) (c .before .can-be-block .ensures) (c .if2 .taken)
 
 loop-holds : tie.Need-loop-holds Inv-loop μ-loop
 loop-holds c =
     let a = c .before .before .before .args in
     let pre = c .before .before .before .pre in
-    (refl, pre .1, walk-start (kindRule (a .kind) (now (a .other))) (now (a .m)) (a .used) (now (a .t)) (omega arith) (pre .2))
+    (refl, pre .1, walk-start (kindRule (a .kind) (now (a .other))) (a .kind .page) (now (a .m)) (a .used) (now (a .t)) (omega arith) (pre .2))
 
 returns : tie.Need-returns Inv-loop μ-loop
 returns c =
     let l = c .before .before .before .loop in
-    walk-end (l .inv .2) (read (c .before)) (l .inv .1 .block-least) (c .if1 .taken)
+    walk-end (l .inv .2) (read (c .before)) (l .inv .1 .bounds .block-least) (c .if1 .taken)
 
 can-be-block-requires : tie.Need-can-be-block-requires Inv-loop μ-loop
 can-be-block-requires c κs =
     let l = c .before .before .before .before .loop in
-    (l .inv .1, l .inv .2 .table .placed, omega arith)
+    (l .inv .1, l .inv .2 .placed, omega arith)
 
 loop-again : tie.Need-loop-again Inv-loop μ-loop
 loop-again c =
@@ -53,7 +53,7 @@ loop-again c =
 returns-2 : tie.Need-returns-2 Inv-loop μ-loop
 returns-2 c =
     let l = c .before .before .before .before .before .before .loop in
-    walk-fault (l .inv .2) (read (c .before .before .before .before)) (l .inv .1 .block-least) (c .before .before .before .if1 .left) (c .before .can-be-block .ensures) (c .if2 .left)
+    walk-fault (l .inv .2) (read (c .before .before .before .before)) (l .inv .1 .bounds .block-least) (c .before .before .before .if1 .left) (c .before .can-be-block .ensures) (c .if2 .left)
 
 pub walk-chain-spec : {M : Type 1} → statement M
 walk-chain-spec =
@@ -68,7 +68,8 @@ walk-chain-spec =
     returns
     can-be-block-requires
     (λ c. omega arith)
-    (λ c. omega (arith, c .before .before .before .before .before .before .loop .inv .1 .block-least))
+    (λ c. omega (arith, c .before .before .before .before .before .before .loop .inv .1 .page-least))
+    (λ c. omega (arith, on c .fits))
     (λ c. omega (arith, on c .fits))
     (λ c. on c .fits)
     (λ c. omega (arith, on c .count))

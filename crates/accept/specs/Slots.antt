@@ -1,0 +1,45 @@
+-- The slots of a map m of n index blocks.
+--     slotIn m s        the fields of slot s
+--     sameState k l     whether two states are the same
+--     freeSlot m n      the first free slot in slot order, or 256 * n where none is free
+--     noLen m p         whether the slot at a place has no Len, which is what makes it free
+--     withFree m v      a verdict, with the first free slot where it is accepted
+use Prim.Native.Nat.{ℕ, _+_, _*_}
+use mathlib.Core.Bool.{Bool, true, false}
+use mathlib.Core.List.{List}
+use lib.Dec.{eqb}
+use Rattle.numbers.specs.Bytes.{u16At}
+use Rattle.numbers.specs.Below.{first}
+use Rattle.records.specs.declared.Slot.{Slot}
+use Rattle.records.specs.declared.State.{State}
+use Rattle.records.specs.declared.State.the-variants.{Free, Erased, Live}
+use Rattle.records.specs.Slots.{slotOf, stateOf}
+use Rattle.accept.specs.declared.Verdict.{Verdict}
+use Rattle.accept.specs.declared.Verdict.the-variants.{Accepted, Refused}
+use Rattle.accept.specs.declared.Examined.{Examined}
+use Rattle.accept.specs.declared.Examined.the-variants as examined
+use Rattle.accept.specs.Rules.{slotAt}
+
+unfoldable pub slotIn : List ℕ → ℕ → Slot
+slotIn m s = slotOf m (slotAt m s)
+
+abbrev pub sameState : State → State → Bool
+sameState Free Free = true
+sameState Free Erased = false
+sameState Free Live = false
+sameState Erased Free = false
+sameState Erased Erased = true
+sameState Erased Live = false
+sameState Live Free = false
+sameState Live Erased = false
+sameState Live Live = true
+
+unfoldable pub freeSlot : List ℕ → ℕ → ℕ
+freeSlot m n = first (λ s. sameState Free (stateOf (slotIn m s))) (256 * n)
+
+abbrev pub noLen : List ℕ → ℕ → Bool
+noLen m p = eqb (u16At m (p + 20)) 0
+
+abbrev pub withFree : List ℕ → Verdict → Examined
+withFree m (Accepted n) = examined.Accepted n (freeSlot m n)
+withFree m (Refused k p) = examined.Refused k p
