@@ -3,11 +3,13 @@
 --     sameState k l     whether two states are the same
 --     freeSlot m n      the first free slot in slot order, or 256 * n where none is free
 --     noLen m p         whether the slot at a place has no Len, which is what makes it free
+--     slotTold ..       what the slot at a place is judged to be
+--     isBad, firstFree  whether that is at fault; and the first free slot by the one among the slots before s and what slot s was judged to be
 --     withFree m v      a verdict, with the first free slot where it is accepted
 use Prim.Native.Nat.{ℕ, _+_, _*_}
-use mathlib.Core.Bool.{Bool, true, false}
+use mathlib.Core.Bool.{Bool, true, false, cond}
 use mathlib.Core.List.{List}
-use lib.Dec.{eqb}
+use lib.Dec.{eqb, ltb}
 use Rattle.numbers.specs.Bytes.{u16At}
 use Rattle.numbers.specs.Below.{first}
 use Rattle.records.specs.declared.Slot.{Slot}
@@ -18,7 +20,10 @@ use Rattle.accept.specs.declared.Verdict.{Verdict}
 use Rattle.accept.specs.declared.Verdict.the-variants.{Accepted, Refused}
 use Rattle.accept.specs.declared.Examined.{Examined}
 use Rattle.accept.specs.declared.Examined.the-variants as examined
+use Rattle.accept.specs.declared.Told.{Told}
+use Rattle.accept.specs.declared.Told.the-variants as told
 use Rattle.accept.specs.Rules.{slotAt}
+use Rattle.accept.specs.Judging.{badSlot}
 
 unfoldable pub slotIn : List ℕ → ℕ → Slot
 slotIn m s = slotOf m (slotAt m s)
@@ -39,6 +44,19 @@ freeSlot m n = first (λ s. sameState Free (stateOf (slotIn m s))) (256 * n)
 
 abbrev pub noLen : List ℕ → ℕ → Bool
 noLen m p = eqb (u16At m (p + 20)) 0
+
+unfoldable pub slotTold : (ℕ → ℕ → Bool) → List ℕ → ℕ → ℕ → ℕ → Told
+slotTold touch m used v p = cond (noLen m p) told.Free (cond (badSlot touch m used v p) told.Bad told.Good)
+
+abbrev pub isBad : Told → Bool
+isBad told.Free = false
+isBad told.Good = false
+isBad told.Bad = true
+
+abbrev pub firstFree : Told → ℕ → ℕ → ℕ
+firstFree told.Free free s = cond (ltb s free) s free
+firstFree told.Good free s = free
+firstFree told.Bad free s = free
 
 abbrev pub withFree : List ℕ → Verdict → Examined
 withFree m (Accepted n) = examined.Accepted n (freeSlot m n)

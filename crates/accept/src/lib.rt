@@ -13,31 +13,28 @@ use records::IndexBlock;
 use records::ObjectHeader;
 use records::Part;
 use records::Slot;
-use records::State;
 use records::SymbolBlock;
 use records::SymbolRecord;
 use records::bytes_in;
 use records::len_good;
 use records::pair_good;
-use records::read_slot;
 use records::size_good;
 use records::type_good;
 ghost use mathlib.Core.Path.{_≡_};
-ghost use mathlib.Core.Bool.{Bool, true};
+ghost use mathlib.Core.Bool.{true};
 ghost use Prim.Native.Nat.{ℕ, _+_, _*_, _≤_, _<_};
 ghost use lib.ListN.{length, drop};
 ghost use Rattle.records.specs.Sizes.{headerSize, indexBlockSize, indexPage, slotSize, entrySize, mapLimit};
 ghost use Rattle.records.specs.Headers.{headerOf, indexHead};
-ghost use Rattle.numbers.specs.Below.{first};
 ghost use Rattle.records.specs.Slots.{lenGood, bytesIn};
 ghost use Rattle.chain.specs.Chains.{walked, taken};
 ghost use Rattle.chain.specs.Tables.{Empty, Placed, Filled, Table, tableMeets};
 ghost use Rattle.chain.specs.declared.Walk.the-variants.{Blocks};
 ghost use Rattle.accept.specs.declared.Verdict.the-variants.{Accepted};
 ghost use Rattle.accept.specs.declared.Examined.the-variants as examined;
-ghost use Rattle.accept.specs.Slots.{noLen, withFree};
+ghost use Rattle.accept.specs.Slots.{slotTold, isBad, firstFree, withFree};
 ghost use Rattle.accept.specs.Rules.{indexRule, symbolRule, indexKind, symbolKind};
-ghost use Rattle.accept.specs.Judging.{versionOf, lengthGood, partGood, headerFits, objectGood, slotGood, badSlot, symbolGood, badEntry};
+ghost use Rattle.accept.specs.Judging.{versionOf, lengthGood, partGood, headerFits, objectGood, slotGood, symbolGood, badEntry};
 ghost use Rattle.accept.specs.Verdicts.{numberOf, placeOf, unless, fieldsJudged, headerJudged, entriesJudged, symbolsJudged, slotsJudged, afterIndex, verdict};
 
 // What the check answers. Refusals carry document 01's number and place.
@@ -50,6 +47,13 @@ pub enum Verdict {
 pub enum Examined {
     Accepted { blocks: usize, free: usize },
     Refused { number: u32, place: u32 },
+}
+
+// What one slot is judged to be: free; good, or erased, which is not judged further; or at fault.
+pub enum Told {
+    Free,
+    Good,
+    Bad,
 }
 
 // What was judged: good, or at fault with document 01's number and place.
@@ -200,54 +204,65 @@ pub fn slot_good(m: &[u8], used: usize, version: u16, index: &[u32], t: Slot) ->
     object_good(m, used, version, index, t)
 }
 
-// Whether the slot at a place is live and not good.
-fn bad_slot(m: &[u8], used: usize, version: u16, index: &[u32], at: usize) -> bool
+// What the slot at a place is judged to be.
+fn judge_slot(m: &[u8], used: usize, version: u16, index: &[u32], at: usize) -> Told
     requires { ⌜ (at + slotSize ≤ length (now m)) × (used ≤ mapLimit) × (used ≤ length (now m)) × (used + indexPage ≤ length (now index) * indexPage) × Filled indexPage used (now index) ⌝ }
-    ensures { λ r. ⌜ r ≡ badSlot (tableMeets indexBlockSize (now (index .entry))) (now (m .entry)) used version at ⌝ }
+    ensures { λ r. ⌜ r ≡ slotTold (tableMeets indexBlockSize (now (index .entry))) (now (m .entry)) used version at ⌝ }
 {
-    let found = read_slot(m, at);
-    let state = found.state;
-    match state {
-        State::Free => false,
-        State::Erased => false,
-        State::Live => {
-            let t = found.slot;
-            !slot_good(m, used, version, index, t)
-        }
+    let t = Slot::at(m, at);
+    if t.len == 0 {
+        return Told::Free;
+    }
+    if t.sym == 0 {
+        return Told::Good;
+    }
+    if slot_good(m, used, version, index, t) {
+        Told::Good
+    } else {
+        Told::Bad
     }
 }
 
-// The first free slot of the first s + 1, of which slot s stands at a place, by that of the first s; the number of slots where none is free.
-fn first_free(m: &[u8], at: usize, free: usize, s: usize) -> usize
-    requires { ⌜ (at + slotSize ≤ length (now m)) × (free ≤ s) × (s < 4294967296) ⌝ }
-    ensures { λ r. ⌜ ((p : ℕ → Bool) → free ≡ first p s → p s ≡ noLen (now (m .entry)) at → r ≡ first p (s + 1)) ⌝ }
+// Whether a slot was judged to be at fault.
+fn is_bad(told: Told) -> bool
+    ensures { λ r. ⌜ r ≡ isBad told ⌝ }
 {
-    if free < s {
-        return free;
+    match told {
+        Told::Free => false,
+        Told::Good => false,
+        Told::Bad => true,
     }
-    if u16_at(m, at + Slot::LEN) == 0 {
-        return s;
-    }
-    s + 1
 }
 
-// 7: the live slot at fault of lowest number. While no slot so far is free, `free` is the number of slots so far; it stays at the first that is.
+// The first free slot, by the one found among the slots before s, and what slot s was judged to be.
+fn first_free(told: Told, free: usize, s: usize) -> usize
+    ensures { λ r. ⌜ r ≡ firstFree told free s ⌝ }
+{
+    match told {
+        Told::Free => { if s < free { s } else { free } }
+        Told::Good => free,
+        Told::Bad => free,
+    }
+}
+
+// 7: the live slot at fault of lowest number. Where there is none, the first free slot, 256 times the blocks where none is free.
 fn judge_slots(m: &[u8], used: usize, index: &[u32], n: usize) -> Examined
     requires { ⌜ (headerSize ≤ used) × (used ≤ mapLimit) × (used ≤ length (now m)) × (used + indexPage ≤ length (now index) * indexPage) × (walked (indexRule (now m)) (now m) used ≡ Blocks n) × Filled indexPage used (now index) × Table indexHead indexPage (now m) n (now index) ⌝ }
     ensures { λ r. ⌜ r ≡ withFree (now (m .entry)) (unless (slotsJudged (now (m .entry)) used n) (Accepted n)) ⌝ }
 {
     let version = u16_at(m, Header::VERSION);
     let mut at = u32_at(m, Header::INDEX) as usize + 4;
-    let mut free = 0;
+    let mut free = 256 * n;
     let mut s = 0;
     while s < 256 * n {
-        if bad_slot(m, used, version, index, at) {
+        let told = judge_slot(m, used, version, index, at);
+        if is_bad(told) {
             return Examined::Refused {
                 number: 7,
                 place: at as u32,
             };
         }
-        free = first_free(m, at, free, s);
+        free = first_free(told, free, s);
         at = next_cell(m, at, s, Slot::SIZE);
         s += 1;
     }
