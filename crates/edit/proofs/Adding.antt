@@ -42,7 +42,7 @@ use Rattle.edit.specs.declared.Answer.the-variants.{Done, Refused}
 use Rattle.edit.specs.declared.Start.the-variants as starts
 use Rattle.edit.specs.Slots.{slotIn, sameState, freeSlot}
 use Rattle.edit.specs.Objects.{pairLimit, offeredGood, blockFor, isObject}
-use Rattle.edit.specs.Edits.{Outcome, saying, afterLook, afterCheck, startOf, newLength, inFree, inBlock, addedMap, repeatAdd, freshAdd, added}
+use Rattle.edit.specs.Edits.{saying, afterLook, afterCheck, startOf, newLength, inFree, inBlock, addedMap, repeatAdd, freshAdd, added}
 use Rattle.edit.proofs.Objects.{offered-tells}
 
 -- ---- a part that was lent to its end
@@ -152,10 +152,6 @@ pub offered-most : (v : ℕ) (o : List ℕ) → offeredGood v o ≡ true → len
 offered-most v o e = let g = offered-tells v o e in omega (arith, g .exact, g .few, limit-most v)
 
 -- ---- an add under a new number, by its tests in their order
-
--- the three parts of an outcome
-pub parts : {w v : Outcome} → w ≡ v → (v .answer ≡ w .answer) × ((v .map ≡ w .map) × (v .journal ≡ w .journal))
-parts q = let e = sym q in (ap (λ (x : Outcome). x .answer) e, (ap (λ (x : Outcome). x .map) e, ap (λ (x : Outcome). x .journal) e))
 
 module _ (m : List ℕ) (used : ℕ) (j : List ℕ) (e : ℕ) (o : List ℕ) (n : ℕ) where
   pub fresh-malformed : offeredGood (versionOf m) o ≡ false → freshAdd m used j e o n ≡ saying m j (Refused 10 0)

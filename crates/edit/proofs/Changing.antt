@@ -36,6 +36,7 @@ use Rattle.journal.specs.declared.Look.the-variants as looks
 use Rattle.journal.specs.Journals.{looked, inUse, isFull, appended, Reach}
 use Rattle.journal.proofs.Below.{zero-one}
 use Rattle.journal.proofs.Journals.{looked-new}
+use Rattle.edit.specs.declared.Answer.{Answer}
 use Rattle.edit.specs.declared.Answer.the-variants.{Done, Refused}
 use Rattle.edit.specs.declared.Start.the-variants as starts
 use Rattle.edit.specs.declared.NewSym.the-variants.{Write, None}
@@ -225,8 +226,13 @@ module _ {m : List ℕ} {used n : ℕ} (h : Holds m used n) (bytes : Bytes m) (s
 
 -- ---- the outcome
 
+-- its three parts
 pub parts : {a b : Outcome} → a ≡ b → (b .answer ≡ a .answer) × ((b .map ≡ a .map) × (b .journal ≡ a .journal))
 parts e = (sym (ap (λ (o : Outcome). o .answer) e), (sym (ap (λ (o : Outcome). o .map) e), sym (ap (λ (o : Outcome). o .journal) e)))
+
+-- of one that changes nothing, where r is its answer
+pub said : {m jn : List ℕ} {r a : Answer} {w : Outcome} → r ≡ a → w ≡ saying m jn a → (r ≡ w .answer) × ((m ≡ w .map) × (jn ≡ w .journal))
+said q e = let p = parts e in (q ∙ p .0, p .1)
 
 module _ (m : List ℕ) (used : ℕ) (jn : List ℕ) (e kind s y : ℕ) where
   pub fresh-refused : freshChange m used jn e kind s false y ≡ saying m jn (Refused 12 0)

@@ -46,6 +46,7 @@ ghost use Rattle.accept.specs.Judging.{versionOf};
 ghost use Rattle.accept.specs.Verdicts.{verdict};
 ghost use Rattle.accept.specs.declared.Verdict.the-variants.{Accepted};
 ghost use Rattle.journal.specs.Journals.{inUse};
+ghost use Rattle.edit.specs.declared.Answer.the-variants.{Refused};
 ghost use Rattle.edit.specs.Slots.{freeSlot};
 ghost use Rattle.edit.specs.Objects.{pairLimit, offeredGood, slotFor, blockFor, isObject};
 ghost use Rattle.edit.specs.Edits.{numberOf, placeOf, beforeOf, slotNo, lengthOf, startOf, Known, repeatChange, freshChange, changed, removed, reinstated, newLength, addedMap, repeatAdd, freshAdd, added};
@@ -122,6 +123,13 @@ pub fn length(a: Answer) -> u32
     }
 }
 
+// A refusal that has no place.
+fn refused(number: u32) -> Answer
+    ensures { λ r. ⌜ r ≡ Refused number 0 ⌝ }
+{
+    Answer::Refused { number, place: 0 }
+}
+
 // How an edit starts: refused by the check or for its journal; or its number is held, by a record of this kind and slot; or it is new, in a map of so many
 // index blocks and a journal of so many records.
 pub enum Start {
@@ -183,7 +191,8 @@ fn sym_to_reinstate(m: &[u8], used: usize, index: &[u32], t: Slot) -> NewSym
         len: t.len,
         sym,
     };
-    if slot_good(m, used, u16_at(m, Header::VERSION), index, revived) {
+    let good = slot_good(m, used, u16_at(m, Header::VERSION), index, revived);
+    if good {
         NewSym::Write(sym)
     } else {
         NewSym::None
@@ -235,21 +244,23 @@ fn repeat_change(used: usize, kind: u32, at: u32, held: u32, slot: u32) -> Answe
     ensures { λ r. ⌜ ((m j : List ℕ) → r ≡ repeatChange m used j kind at held slot .answer) ⌝ }
 {
     if held != kind {
-        return Answer::Refused {
-            number: 14,
-            place: 0,
-        };
+        return refused(14);
     }
     if slot != at {
-        return Answer::Refused {
-            number: 14,
-            place: 0,
-        };
+        return refused(14);
     }
     Answer::Before {
         slot: at,
         length: used as u32,
     }
+}
+
+// The Sym of the slot at a place.
+fn put_sym(map: &mut [u8], place: usize, sym: u16)
+    requires { ⌜ place + slotSize ≤ length (now map) ⌝ }
+    ensures { λ r. ⌜ now (map .exit) ≡ sets (now (map .entry)) (place + 22) (bytesOf 2 sym) ⌝ }
+{
+    put_u16_at(map, place + Slot::SYM, sym);
 }
 
 // A removal or reinstatement under a new number: the Sym of slot `at`, whose place is lent, and the record.
@@ -270,12 +281,9 @@ fn change_slot(
     ensures journals { λ r. ⌜ now (journal .exit) ≡ freshChange (now (map .entry)) used (now (journal .entry)) edit kind at true sym .journal ⌝ }
 {
     if is_full(journal, records) {
-        return Answer::Refused {
-            number: 15,
-            place: 0,
-        };
+        return refused(15);
     }
-    put_u16_at(map, place + Slot::SYM, sym);
+    put_sym(map, place, sym);
     append(journal, records, JournalRecord::new(edit, kind, at));
     Answer::Done {
         slot: at,
@@ -302,10 +310,7 @@ fn change(map: &mut [u8], used: usize, journal: &mut [u8], edit: u32, kind: u32,
         Start::New { blocks, records } => {
             let sym = sym_for(map, used, &index, &order, blocks, kind, at);
             match sym {
-                NewSym::None => Answer::Refused {
-                    number: 12,
-                    place: 0,
-                },
+                NewSym::None => refused(12),
                 NewSym::Write(y) => {
                     let place = place_of(&order, at as usize);
                     change_slot(map, used, journal, edit, kind, at, place, records, y)
@@ -439,16 +444,10 @@ fn repeat_add(
     ensures { λ r. ⌜ ((j : List ℕ) → r ≡ repeatAdd (now (m .entry)) used j (now (o .entry)) kind slot .answer) ⌝ }
 {
     if kind != JournalRecord::ADD {
-        return Answer::Refused {
-            number: 14,
-            place: 0,
-        };
+        return refused(14);
     }
     if !is_object(m, used, place_of(order, slot as usize), o) {
-        return Answer::Refused {
-            number: 14,
-            place: 0,
-        };
+        return refused(14);
     }
     Answer::Before {
         slot,
@@ -538,31 +537,19 @@ fn add_new(
     ensures journals { λ r. ⌜ now (journal .exit) ≡ freshAdd (now (map .entry)) used (now (journal .entry)) edit (now (o .entry)) n .journal ⌝ }
 {
     if !offered_good(u16_at(map, Header::VERSION), o) {
-        return Answer::Refused {
-            number: 10,
-            place: 0,
-        };
+        return refused(10);
     }
     let s = first_free(map, used, n);
     let length = new_length(used, n, s, o);
     if Header::LIMIT < length {
-        return Answer::Refused {
-            number: 11,
-            place: 0,
-        };
+        return refused(11);
     }
     if map.len() < length {
-        return Answer::Refused {
-            number: 11,
-            place: 0,
-        };
+        return refused(11);
     }
     let full = is_full(journal, records);
     if full {
-        return Answer::Refused {
-            number: 15,
-            place: 0,
-        };
+        return refused(15);
     }
     write_added(map, used, order, n, s, o);
     append(

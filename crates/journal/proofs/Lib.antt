@@ -2,8 +2,8 @@
 --     Below       more of `any`: tests that agree, and a test made of two
 --     Records     a record's shape, and the records in use
 --     Journals    a journal that is well formed, what holds a number, and a journal with one record more
---     Seen        the marks by which a number is known to be new
+--     Passes      what the chain of a bucket tells of a number, and the pass over the records
 pub mod Below
 pub mod Records
 pub mod Journals
-pub mod Seen
+pub mod Passes

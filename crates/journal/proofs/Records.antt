@@ -1,13 +1,15 @@
 -- The laws of a journal's records: what a good shape tells, and which records are in use. Assumes nothing.
 use Prim.Native.Nat.{ℕ, zero, suc, _+_, _*_, _≤_, _<_}
 use mathlib.Core.Bool.{true, false, not, _&&_}
-use mathlib.Core.Path.{_≡_, refl}
+use mathlib.Core.Path.{_≡_, refl, sym, _∙_}
+use mathlib.Core.Logic.{⊎-elim}
 use mathlib.Core.List.{List}
 use native.Mathlib.Omega.{arith}
 use lib.Dec.{eqb, leb}
 use lib.ListN.{length, length-append}
 use borrow.Author.Tests.{eq-eqb, ne-eqb, le-leb, leb-true, eqb-true, eqb-false, not-true}
-use Rattle.numbers.proofs.Below.{First, first-law}
+use Rattle.numbers.proofs.Below.{never, First, first-law}
+use Rattle.numbers.proofs.Coordinates.{lt-or-ge}
 use Rattle.records.specs.declared.JournalRecord.{JournalRecord}
 use Rattle.records.specs.Journals.{kindGood, shapeGood, isUnused}
 use Rattle.journal.specs.Journals.{recordIn, total, inUse, isFull, recordsTo, recordsOf}
@@ -56,10 +58,6 @@ in-use-within jn = in-use-first jn .within
 pub in-use-not-unused : (jn : List ℕ) (i : ℕ) → i < inUse jn → isUnused (recordIn jn i) ≡ false
 in-use-not-unused jn = in-use-first jn .before
 
--- their bytes lie inside the journal
-pub in-use-bytes : (jn : List ℕ) → 16 * inUse jn ≤ length jn
-in-use-bytes jn = omega (arith, in-use-within jn)
-
 -- a journal that is not full has an unused record behind them
 pub not-full : (jn : List ℕ) → isFull jn ≡ false → inUse jn < total jn
 unfolding isFull
@@ -67,6 +65,11 @@ not-full jn e = omega (arith, in-use-within jn, eqb-false (inUse jn) (total jn) 
 
 pub next-unused : (jn : List ℕ) → inUse jn < total jn → isUnused (recordIn jn (inUse jn)) ≡ true
 next-unused jn = in-use-first jn .here
+
+-- a record up to which none is unused is in use
+pub in-use-past : (jn : List ℕ) (i : ℕ) → i < total jn → ((k : ℕ) → k < i + 1 → isUnused (recordIn jn k) ≡ false) → i < inUse jn
+in-use-past jn i l h =
+    ⊎-elim (λ g. g) (λ g. absurd (never (sym (next-unused jn (omega arith)) ∙ h (inUse jn) (omega arith)))) (lt-or-ge i (inUse jn))
 
 pub next-bytes : (jn : List ℕ) → inUse jn < total jn → 16 * inUse jn + 16 ≤ length jn
 next-bytes jn h = omega arith

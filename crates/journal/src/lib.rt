@@ -8,13 +8,14 @@ ghost use mathlib.Core.List.{List};
 ghost use Prim.Native.Nat.{ℕ, _+_, _*_, _≤_, _<_};
 ghost use lib.Dec.{eqb, ltb};
 ghost use lib.ListN.{length};
-ghost use Rattle.numbers.specs.Below.{any, first};
-ghost use Rattle.records.specs.Sizes.{journalRecordSize};
+ghost use Rattle.numbers.specs.Below.{any};
+ghost use Rattle.records.specs.Sizes.{journalRecordSize, journalLimit};
 ghost use Rattle.records.specs.Headers.{indexHead};
 ghost use Rattle.records.specs.Journals.{isUnused};
 ghost use Rattle.chain.specs.Cells.{Ordered};
 ghost use Rattle.accept.specs.Rules.{slotAt};
-ghost use Rattle.journal.specs.Journals.{recordIn, total, inUse, slotUsed, recordGood, wellFormed, isFull, appended, looked, Reach};
+ghost use Rattle.journal.specs.Journals.{recordIn, total, inUse, slotUsed, isFull, appended, looked, Reach};
+ghost use Rattle.journal.specs.Passes.{bucketOf, lastIn, Chained, judged};
 
 // What a look into a journal for an edit number answers. `used` is the number of records in use.
 pub enum Look {
@@ -23,44 +24,18 @@ pub enum Look {
     New { used: usize },
 }
 
+// What the pass over the records in use answers: one is not good; or how many they are, and the one that holds the edit number, all zero where none does.
+pub enum Judged {
+    Bad,
+    Good { used: usize, held: JournalRecord },
+}
+
 // Record i of a journal.
 fn record_in(j: &[u8], i: usize) -> JournalRecord
     requires { ⌜ journalRecordSize * i + journalRecordSize ≤ length (now j) ⌝ }
     ensures { λ r. ⌜ r ≡ recordIn (now (j .entry)) i ⌝ }
 {
     JournalRecord::at(j, JournalRecord::SIZE * i)
-}
-
-// How many records are in use.
-fn count_in_use(j: &[u8]) -> usize
-    ensures { λ r. ⌜ r ≡ inUse (now (j .entry)) ⌝ }
-{
-    let all = j.len() / JournalRecord::SIZE;
-    let mut i = 0;
-    while i < all {
-        let r = record_in(j, i);
-        if r.is_unused() {
-            return i;
-        }
-        i += 1;
-    }
-    i
-}
-
-// The first of the records below k that holds a number, and k where there is none.
-fn find_number(j: &[u8], k: usize, e: u32) -> usize
-    requires { ⌜ journalRecordSize * k ≤ length (now j) ⌝ }
-    ensures { λ r. ⌜ r ≡ first (λ (i : ℕ). eqb (recordIn (now (j .entry)) i .number) e) k ⌝ }
-{
-    let mut i = 0;
-    while i < k {
-        let r = record_in(j, i);
-        if r.number == e {
-            return i;
-        }
-        i += 1;
-    }
-    k
 }
 
 // Where slot s stands, by the blocks in their order.
@@ -85,32 +60,68 @@ fn slot_used(m: &[u8], order: &[u32], n: usize, s: u32) -> bool
     t.len != 0
 }
 
-// Whether the records in use, the first k, are good. A number whose place in `seen` is not marked is new; only where it is marked are the records before
-// searched, so that rising numbers cost one look each.
-fn records_good(j: &[u8], k: usize, m: &[u8], order: &[u32], n: usize) -> bool
-    requires { ⌜ (journalRecordSize * k ≤ length (now j)) × Reach (now m) (now order) n ⌝ }
-    ensures { λ r. ⌜ r ≡ not (any (λ (i : ℕ). not (recordGood (now (j .entry)) (now (m .entry)) n i)) k) ⌝ }
+// Numbers fall in so many buckets.
+const BUCKETS: usize = 8192;
+
+// The bucket that a number falls in: the high bits of a product in which near numbers lie far apart.
+fn bucket_of(number: u32) -> usize
+    ensures { λ r. ⌜ r ≡ bucketOf number ⌝ }
 {
-    let mut seen = [0u8; 16384];
+    (number as u64 * 2654435769 % 4294967296 / 524288) as usize
+}
+
+// Whether one of the chained records has a number. The chain of its bucket begins with `from`, and the last record comes first.
+fn stands_before(j: &[u8], earlier: &[u32], from: u32, number: u32) -> bool
+    requires { ⌜ Chained (now j) (now earlier) × (from ≡ lastIn (now j) (bucketOf number) (length (now earlier))) ⌝ }
+    ensures { λ r. ⌜ r ≡ any (λ (k : ℕ). eqb (recordIn (now (j .entry)) k .number) number) (length (now (earlier .entry))) ⌝ }
+{
+    let mut at = from as usize;
+    while at != 0 {
+        let k = at - 1;
+        let r = record_in(j, k);
+        if r.number == number {
+            return true;
+        }
+        at = earlier[k] as usize;
+    }
+    false
+}
+
+// The records in use, judged in one pass. Those with one bucket form a chain: `heads` has the last of each, and `earlier` the one before each record. They are
+// counted from 1, with 0 where there is none.
+fn judge_records(j: &[u8], m: &[u8], order: &[u32], n: usize, e: u32) -> Judged
+    requires { ⌜ (length (now j) ≤ journalLimit) × Reach (now m) (now order) n ⌝ }
+    ensures { λ r. ⌜ r ≡ judged (now (j .entry)) (now (m .entry)) n e ⌝ }
+{
+    let all = j.len() / JournalRecord::SIZE;
+    let mut heads = [0u32; BUCKETS];
+    let mut earlier = [0u32; JournalRecord::LIMIT / JournalRecord::SIZE];
+    let mut held = JournalRecord::new(0, 0, 0);
     let mut i = 0;
-    while i < k {
+    while i < all {
         let r = record_in(j, i);
+        if r.is_unused() {
+            return Judged::Good { used: i, held };
+        }
         if !r.shape_good() {
-            return false;
+            return Judged::Bad;
         }
         if !slot_used(m, order, n, r.slot) {
-            return false;
+            return Judged::Bad;
         }
-        let bucket = (r.number % 16384) as usize;
-        if seen[bucket] != 0 {
-            if find_number(j, i, r.number) < i {
-                return false;
-            }
+        let bucket = bucket_of(r.number);
+        let last = heads[bucket];
+        if stands_before(j, &earlier[..i], last, r.number) {
+            return Judged::Bad;
         }
-        seen[bucket] = 1;
+        earlier[i] = last;
+        heads[bucket] = (i + 1) as u32;
+        if r.number == e {
+            held = r;
+        }
         i += 1;
     }
-    true
+    Judged::Good { used: i, held }
 }
 
 // Whether the records from k on are all zero.
@@ -129,23 +140,6 @@ fn rest_unused(j: &[u8], k: usize) -> bool
     true
 }
 
-// Whether a journal, whose first k records are in use, is well formed for a map.
-fn well_formed(j: &[u8], k: usize, m: &[u8], order: &[u32], n: usize) -> bool
-    requires { ⌜ (k ≡ inUse (now j)) × Reach (now m) (now order) n ⌝ }
-    ensures { λ r. ⌜ r ≡ wellFormed (now (j .entry)) (now (m .entry)) n ⌝ }
-{
-    if JournalRecord::LIMIT < j.len() {
-        return false;
-    }
-    if j.len() % JournalRecord::SIZE != 0 {
-        return false;
-    }
-    if !records_good(j, k, m, order, n) {
-        return false;
-    }
-    rest_unused(j, k)
-}
-
 // A look into the journal for an edit number. The map has n index blocks, whose order is lent.
 pub fn look_up(j: &[u8], m: &[u8], order: &[u32], n: usize, e: u32) -> Look
     requires { ⌜ Reach (now m) (now order) n ⌝ }
@@ -154,19 +148,28 @@ pub fn look_up(j: &[u8], m: &[u8], order: &[u32], n: usize, e: u32) -> Look
     if e == 0 {
         return Look::Malformed;
     }
-    let k = count_in_use(j);
-    if !well_formed(j, k, m, order, n) {
+    if JournalRecord::LIMIT < j.len() {
         return Look::Malformed;
     }
-    let i = find_number(j, k, e);
-    if i < k {
-        let r = record_in(j, i);
-        return Look::Held {
-            kind: r.kind,
-            slot: r.slot,
-        };
+    if j.len() % JournalRecord::SIZE != 0 {
+        return Look::Malformed;
     }
-    Look::New { used: k }
+    let records = judge_records(j, m, order, n, e);
+    match records {
+        Judged::Bad => Look::Malformed,
+        Judged::Good { used, held } => {
+            if !rest_unused(j, used) {
+                return Look::Malformed;
+            }
+            if held.number != e {
+                return Look::New { used };
+            }
+            Look::Held {
+                kind: held.kind,
+                slot: held.slot,
+            }
+        }
+    }
 }
 
 // Whether no record is unused, of which k are in use.

@@ -7,7 +7,8 @@ use Rattle.chain.proofs.Tables.{zeros}
 use Rattle.journal.proofs.Journals.{looked-new}
 use Rattle.edit.specs.declared.Start.the-variants as starts
 use Rattle.edit.specs.Edits.{startOf}
-use Rattle.edit.proofs.Adding.{parts, start-held, start-new, blocks-most, held-there, added-refused, added-held, added-new, repeat-keeps}
+use Rattle.edit.proofs.Changing.{parts}
+use Rattle.edit.proofs.Adding.{start-held, start-new, blocks-most, held-there, added-refused, added-held, added-new, repeat-keeps}
 use borrow.Author.Needs.{needs}
 use Rattle.edit.proofs.add.Statement.{statement}
 use Rattle.edit.proofs.add.Tie as tie

@@ -13,7 +13,8 @@ use Rattle.journal.specs.Journals.{isFull}
 use Rattle.journal.proofs.Records.{not-full, next-bytes}
 use Rattle.edit.specs.Objects.{offeredGood}
 use Rattle.edit.specs.Edits.{newLength}
-use Rattle.edit.proofs.Adding.{free-most, blocks-most, offered-most, parts, fresh-malformed, fresh-long, fresh-tight, fresh-full, fresh-done}
+use Rattle.edit.proofs.Changing.{said}
+use Rattle.edit.proofs.Adding.{free-most, blocks-most, offered-most, fresh-malformed, fresh-long, fresh-tight, fresh-full, fresh-done}
 use borrow.Author.Needs.{needs}
 use Rattle.edit.proofs.add_new.Statement.{statement}
 use Rattle.edit.proofs.add_new.Tie as tie
@@ -54,8 +55,9 @@ small c =
 
 returns : tie.Need-returns
 returns c =
-    let a = c .before .before .before .before .before .before .before .before .args in
-    parts (fresh-malformed (now (a .map)) (a .used) (now (a .journal)) (a .edit) (now (a .o)) (a .n) (fails (offered (c .before)) (c .if1 .taken)))
+    let r = c .before in
+    let a = r .before .before .before .before .before .before .before .before .args in
+    said (c .refused .ensures) (fresh-malformed (now (a .map)) (a .used) (now (a .journal)) (a .edit) (now (a .o)) (a .n) (fails (offered (r .before)) (r .if1 .taken)))
 
 first-free-requires : tie.Need-first-free-requires
 first-free-requires c κs = let h = holds (c .before .before .before .before .before .before .before .before .before) in (h .low, h .limit, h .room, h .index)
@@ -69,22 +71,25 @@ new-length-requires c κs =
 
 returns-2 : tie.Need-returns-2
 returns-2 c =
-    let k = c .before .before .before .before in
+    let r = c .before in
+    let k = r .before .before .before .before in
     let a = k .before .before .before .before .before .before .before .before .args in
-    parts (fresh-long (now (a .map)) (a .used) (now (a .journal)) (a .edit) (now (a .o)) (a .n) (good k) (omega (arith, long (c .before))))
+    said (c .refused2 .ensures) (fresh-long (now (a .map)) (a .used) (now (a .journal)) (a .edit) (now (a .o)) (a .n) (good k) (omega (arith, long (r .before))))
 
 returns-3 : tie.Need-returns-3
 returns-3 c =
-    let k = c .before .before .before .before .before in
+    let r = c .before in
+    let k = r .before .before .before .before .before in
     let a = k .before .before .before .before .before .before .before .before .args in
-    parts (fresh-tight (now (a .map)) (a .used) (now (a .journal)) (a .edit) (now (a .o)) (a .n) (good k) (within (c .before)) (omega (arith, long (c .before .before))))
+    said (c .refused3 .ensures) (fresh-tight (now (a .map)) (a .used) (now (a .journal)) (a .edit) (now (a .o)) (a .n) (good k) (within (r .before)) (omega (arith, long (r .before .before))))
 
 returns-4 : tie.Need-returns-4
 returns-4 c =
-    let l = c .before .before .before in
+    let r = c .before in
+    let l = r .before .before .before in
     let k = l .before .before .before .before .before in
     let a = k .before .before .before .before .before .before .before .before .args in
-    parts (fresh-full (now (a .map)) (a .used) (now (a .journal)) (a .edit) (now (a .o)) (a .n) (good k) (within (l .before)) (room l) (sym (c .before .is-full .ensures) ∙ c .if4 .taken))
+    said (c .refused4 .ensures) (fresh-full (now (a .map)) (a .used) (now (a .journal)) (a .edit) (now (a .o)) (a .n) (good k) (within (l .before)) (room l) (sym (r .before .is-full .ensures) ∙ r .if4 .taken))
 
 -- ---- the writes
 
@@ -130,14 +135,18 @@ add-new-spec =
     (tie.spec
     u16-at-requires
     (λ c κs. search needs)
+    (λ c κs. search needs)
     (λ c. search needs)
     returns
     first-free-requires
     new-length-requires
+    (λ c κs. search needs)
     (λ c. search needs)
     returns-2
+    (λ c κs. search needs)
     (λ c. search needs)
     returns-3
+    (λ c κs. search needs)
     (λ c κs. search needs)
     (λ c. search needs)
     (λ c. search needs)

@@ -13,7 +13,7 @@ use Rattle.edit.specs.declared.Start.the-variants as starts
 use Rattle.edit.specs.declared.NewSym.the-variants.{Write}
 use Rattle.edit.specs.NewSyms.{newSymFor}
 use Rattle.edit.specs.Edits.{startOf}
-use Rattle.edit.proofs.Changing.{few-blocks, start-held, start-new, sym-write, allowed-exists, parts, repeat-map, repeat-journal, changed-refused, changed-held, changed-none, changed-write}
+use Rattle.edit.proofs.Changing.{few-blocks, start-held, start-new, sym-write, allowed-exists, parts, said, repeat-map, repeat-journal, changed-refused, changed-held, changed-none, changed-write}
 use borrow.Author.Needs.{needs}
 use Rattle.edit.proofs.change.Statement.{statement}
 use Rattle.edit.proofs.change.Tie as tie
@@ -107,10 +107,11 @@ returns-2 c =
 
 returns-3 : tie.Need-returns-3
 returns-3 c =
-    let k = c .before .before in
+    let t = c .before in
+    let k = t .before .before in
     let w = k .before .before .before .before .before in
     let a = w .before .before .before .before .before .before .before .before .before .before .before .args in
-    parts (changed-none (now (a .map)) (a .used) (now (a .journal)) (a .edit) (a .kind) (a .at) (new w) (sym (k .sym-for .ensures) ∙ c .enum-told .given .1))
+    said (cc) (changed-none (now (a .map)) (a .used) (now (a .journal)) (a .edit) (a .kind) (a .at) (new w) (sym (k .sym-for .ensures) ∙ t .enum-told .given .1))
 
 returns-4 : tie.Need-returns-4
 returns-4 c =
@@ -136,6 +137,7 @@ change-spec =
     (λ c. search needs)
     sym-for-requires
     (λ c. search needs)
+    (λ c κs. search needs)
     (λ c. search needs)
     (λ c. search needs)
     place-of-requires

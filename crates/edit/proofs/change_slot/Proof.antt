@@ -6,16 +6,17 @@ use denote.Ref.{now}
 use Rattle.journal.specs.Journals.{isFull, appended}
 use Rattle.journal.proofs.Records.{not-full, next-bytes}
 use Rattle.edit.specs.Slots.{withSym}
-use Rattle.edit.proofs.Changing.{parts, fresh-full, fresh-done}
+use Rattle.edit.proofs.Changing.{parts, said, fresh-full, fresh-done}
 use borrow.Author.Needs.{needs}
 use Rattle.edit.proofs.change_slot.Statement.{statement}
 use Rattle.edit.proofs.change_slot.Tie as tie
 
 returns : tie.Need-returns
 returns c =
-    let k = c .before in
+    let r = c .before in
+    let k = r .before in
     let a = k .before .before .before .before .args in
-    parts (fresh-full (now (a .map)) (a .used) (now (a .journal)) (a .edit) (a .kind) (a .at) (a .sym) (sym (k .is-full .ensures) ∙ c .if1 .taken))
+    said (c .refused .ensures) (fresh-full (now (a .map)) (a .used) (now (a .journal)) (a .edit) (a .kind) (a .at) (a .sym) (sym (k .is-full .ensures) ∙ r .if1 .taken))
 
 -- the journal has room
 room : (c : tie.Else1) → isFull (now (c .before .before .before .before .before .args .journal)) ≡ false
@@ -39,7 +40,7 @@ returns-2 c =
     let e = parts (fresh-done (now (a .map)) (a .used) (now (a .journal)) (a .edit) (a .kind) (a .at) (a .sym) (room f)) in (
       e .0,
       (
-        (rw (s .pre .1) at (p .put-u16-at .ensures)) ∙ e .1 .0,
+        (rw (s .pre .1) at (p .put-sym .ensures)) ∙ e .1 .0,
         w .append .ensures ∙ ap (appended (now (a .journal))) (w .before .new .ensures) ∙ e .1 .1,
       ),
     )
@@ -49,9 +50,9 @@ change-slot-spec =
     tie.close
     (tie.spec
     (λ c κs. search needs)
+    (λ c κs. search needs)
     (λ c. search needs)
     returns
-    (λ c. search needs)
     (λ c κs. search needs)
     (λ c κs. search needs)
     append-requires

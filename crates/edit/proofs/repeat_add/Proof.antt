@@ -25,7 +25,7 @@ found c =
 
 returns : tie.Need-returns
 unfolding repeatAdd
-returns c = λ j. rw (ne-eqb _ _ (c .if1 .taken))
+returns c = λ j. rw (c .refused .ensures, ne-eqb _ _ (c .before .if1 .taken))
 
 is-object-requires : tie.Need-is-object-requires
 is-object-requires c κs =
@@ -40,7 +40,7 @@ object c = rw (← found (c .before)) (c .is-object .ensures)
 
 returns-2 : tie.Need-returns-2
 unfolding repeatAdd
-returns-2 c = λ j. rw (eq-eqb _ _ (c .before .before .before .if1 .left), fails (object (c .before)) (c .if2 .taken))
+returns-2 c = let f = c .before in λ j. rw (c .refused2 .ensures, eq-eqb _ _ (f .before .before .before .if1 .left), fails (object (f .before)) (f .if2 .taken))
 
 cast-t12 : tie.Need-cast-t12
 cast-t12 c = omega (arith, holds (c .before .before .before .before .before .before .before) .limit)
@@ -51,4 +51,4 @@ returns-3 c = λ j. rw (eq-eqb _ _ (c .before .before .before .if1 .left), passe
 
 pub repeat-add-spec : {M : Type 1} → statement M
 repeat-add-spec =
-    tie.close (tie.spec returns (λ c κs. search needs) is-object-requires returns-2 cast-t12 returns-3)
+    tie.close (tie.spec (λ c κs. search needs) returns (λ c κs. search needs) is-object-requires (λ c κs. search needs) returns-2 cast-t12 returns-3)

@@ -1,10 +1,13 @@
--- `journal::look_up` meets its contract: number 0 and a journal that is not well formed are malformed; else the record that holds the number answers, or the
--- number is new. Assumes nothing.
-use native.Mathlib.Omega.{arith}
+-- `journal::look_up` meets its contract: number 0 and a bad length are malformed, and so is a journal with a bad record; else the record that holds the number
+-- answers, or the number is new. Assumes nothing.
+use mathlib.Core.Path.{_≡_, sym, _∙_}
 use denote.Ref.{now}
-use borrow.Author.Tests.{lt-ltb, le-ltb, eq-eqb, ne-eqb, not-true, not-false}
-use Rattle.journal.specs.Journals.{looked, isHeld, holder}
-use Rattle.journal.proofs.Records.{in-use-bytes}
+use borrow.Author.Tests.{le-leb, lt-leb, eq-eqb, ne-eqb, not-true, not-false}
+use Rattle.journal.specs.Journals.{looked}
+use Rattle.journal.specs.Passes.{judged}
+use Rattle.journal.specs.declared.Judged.the-variants.{Good}
+use Rattle.journal.proofs.Journals.{well-formed-parts}
+use Rattle.journal.proofs.Passes.{Sized, look-bad, look-rest, look-new, look-held}
 use borrow.Author.Needs.{needs}
 use Rattle.journal.proofs.look_up.Statement.{statement}
 use Rattle.journal.proofs.look_up.Tie as tie
@@ -16,54 +19,58 @@ returns c = rw (eq-eqb _ _ (c .if1 .taken))
 returns-2 : tie.Need-returns-2
 unfolding looked
 returns-2 c =
-    let w = c .before in
-    rw (ne-eqb _ _ (w .before .before .if1 .left), ← w .well-formed .ensures, not-true (w .well-formed .result) (c .if2 .taken))
+    let a = c .before .before .before .before .before .args in
+    rw (ne-eqb _ _ (c .before .if1 .left), well-formed-parts (now (a .j)) (now (a .m)) (a .n), lt-leb _ _ (c .if2 .taken))
 
-find-number-requires : tie.Need-find-number-requires
-find-number-requires c κs = omega (arith, c .before .before .count-in-use .ensures, in-use-bytes (now (c .before .before .before .before .before .before .before .args .j)))
-
-record-in-requires : tie.Need-record-in-requires
-record-in-requires c κs = omega (arith, c .before .before .before .before .count-in-use .ensures, in-use-bytes (now (c .before .before .before .before .before .before .before .before .before .args .j)))
-
--- the number is not 0, the journal is well formed, and the search is the one for the holder
 returns-3 : tie.Need-returns-3
-unfolding looked isHeld holder
+unfolding looked
 returns-3 c =
-    let f = c .before .before in
-    let w = f .before .before in
-    rw (
-      ne-eqb _ _ (w .before .before .if1 .left),
-      ← w .well-formed .ensures,
-      not-false (w .well-formed .result) (f .before .if2 .left),
-      ← w .before .count-in-use .ensures,
-      ← f .find-number .ensures,
-      lt-ltb _ _ (c .before .if3 .taken),
-      ← c .record-in .ensures,
-    )
+    let h = c .before in
+    let a = h .before .before .before .before .before .args in
+    rw (ne-eqb _ _ (h .before .if1 .left), well-formed-parts (now (a .j)) (now (a .m)) (a .n), le-leb _ _ (h .if2 .left), ne-eqb _ _ (c .if3 .taken))
+
+-- the number is not 0, and the length is good
+sized : (d : tie.Else3) → let a = d .before .before .before .before .before .before .args in Sized (now (a .j)) (now (a .m)) (a .n) (a .e)
+sized d = record { nonzero = d .before .before .if1 .left; short = d .before .if2 .left; whole = d .if3 .left }
+
+-- the records in use are good
+judged-as : (d : tie.After-records) → let a = d .before .before .before .before .before .before .before .before .before .args in judged (now (a .j)) (now (a .m)) (a .n) (a .e) ≡ Good (d .records .given .0 .0) (d .records .given .0 .1 .0)
+judged-as d = sym (d .before .before .judge-records .ensures) ∙ d .records .given .1
 
 returns-4 : tie.Need-returns-4
-unfolding looked isHeld holder
 returns-4 c =
-    let f = c .before in
-    let w = f .before .before in
-    rw (
-      ne-eqb _ _ (w .before .before .if1 .left),
-      ← w .well-formed .ensures,
-      not-false (w .well-formed .result) (f .before .if2 .left),
-      ← w .before .count-in-use .ensures,
-      ← f .find-number .ensures,
-      le-ltb _ _ (c .if3 .left),
-    )
+    let d = c .before .before .before in
+    look-rest (sized (d .before .before .before)) (judged-as d) (sym (c .before .rest-unused .ensures) ∙ not-true _ (c .if4 .taken))
+
+returns-5 : tie.Need-returns-5
+returns-5 c =
+    let f = c .before .before in
+    let d = f .before .before .before in
+    look-new (sized (d .before .before .before)) (judged-as d) (sym (f .before .rest-unused .ensures) ∙ not-false _ (f .if4 .left)) (c .if5 .taken)
+
+returns-6 : tie.Need-returns-6
+returns-6 c =
+    let d = c .before .before in
+    look-bad (sized (d .before)) (rw (← d .judge-records .ensures) (c .enum-told .given .1))
+
+returns-7 : tie.Need-returns-7
+returns-7 c =
+    let f = c .before .before in
+    let d = f .before .before .before in
+    look-held (sized (d .before .before .before)) (judged-as d) (sym (f .before .rest-unused .ensures) ∙ not-false _ (f .if4 .left)) (c .if5 .left)
 
 pub look-up-spec : {M : Type 1} → statement M
 look-up-spec =
     tie.close
     (tie.spec
     returns
-    (λ c κs. search needs)
-    (λ c κs. search needs)
     returns-2
-    find-number-requires
-    record-in-requires
     returns-3
-    returns-4)
+    (λ c κs. search needs)
+    (λ c. search needs)
+    (λ c. search needs)
+    (λ c κs. search needs)
+    returns-4
+    returns-5
+    returns-6
+    returns-7)
