@@ -6,19 +6,20 @@
 --     found-tells        and back: what an answer that finds tells
 --     blocks-walked      the blocks that it gives are the chain's
 --     listed, kept, length-kept     the lent list afterwards: the list found in the first entries, what it held in the others, as many as before
+--     list-found         the same as one equation
 --     refusal-leaves     after a refusal all is as it was
 --     view-answers, view-lists      a search through a view is the search
 use Prim.Native.Nat.{ℕ, _*_, _≤_, _<_}
 use mathlib.Core.Bool.{Bool, true, false, cond, and-eq-true-iff}
-use mathlib.Core.Path.{_≡_, refl, sym}
+use mathlib.Core.Path.{_≡_, refl, sym, _∙_}
 use mathlib.Core.Logic.{_↔_}
-use mathlib.Core.List.{List}
+use mathlib.Core.List.{List, _++_}
 use native.Mathlib.Nat.{zero-add}
 use native.Mathlib.Omega.{arith}
 use lib.Dec.{T, ltb}
 use lib.IntN.{ℤ}
-use lib.ListN.{length, getD}
-use lib.Seq.{length-sets}
+use lib.ListN.{length, getD, drop}
+use lib.Seq.{length-sets, sets-eq}
 use lib.Signed.{leZ, _≤ℤ_}
 use borrow.Author.Tests.{lt-ltb, le-ltb, ltb-false}
 use Rattle.numbers.specs.Below.{sel}
@@ -162,6 +163,11 @@ module _ (m : List ℕ) (used : ℕ) (w : Window) (l : List ℕ) where
   listed {b} e i h =
       let t = found-tells m used w (length l) e in
       rw (by-answer e) (rw zero-add at (getD-sets-in (found m b w) l 0 i (omega (arith, t .counted)) (omega (arith, t .counted, t .fits))))
+
+  pub list-found : {c b : ℕ} → answerOf m used w (length l) ≡ Found c b → listAfter m used w l ≡ found m b w ++ drop c l
+  list-found {b} e =
+      let t = found-tells m used w (length l) e in
+      rw (t .counted) (by-answer e ∙ (rw zero-add at (sets-eq (found m b w) l 0 (omega (arith, t .counted, t .fits)))))
 
   pub kept : (i : ℕ) → countOf (answerOf m used w (length l)) ≤ i → getD (listAfter m used w l) i 0 ≡ getD l i 0
   kept i = go (answerOf m used w (length l)) refl

@@ -29,12 +29,11 @@ use Rattle.accept.proofs.Frame.{good-kept, version-same}
 use Rattle.journal.specs.Journals.{looked, isHeld, holder, recordIn, wellFormed}
 use Rattle.journal.proofs.Journals.{room-of, appended-new, appended-holds, appended-holder, held-tells}
 use Rattle.journal.proofs.Records.{not-full, shape-tells}
-use Rattle.edit.specs.declared.Answer.{Answer}
 use Rattle.edit.specs.declared.Answer.the-variants.{Done, Before}
 use Rattle.edit.specs.Slots.{slotIn, hasState, resym, objectSym}
-use Rattle.edit.specs.Edits.{startOf, afterCheck, afterLook, repeatChange, changed, slotNo, slotAdded}
+use Rattle.edit.specs.Edits.{startOf, afterCheck, afterLook, repeatChange, changed, slotAdded}
 use Rattle.edit.proofs.Syms.{has-tells, len-some, same-live, state-unmarked}
-use Rattle.promise.specs.Runs.{State, Call, add, remove, reinstate, search, outcome, step, run, isDone, isDoneAnswer, recordOf, blocksIn, blocksOf, isLiveIn, Content, contentOf, Good, Sent, AllSent}
+use Rattle.promise.specs.Runs.{State, Call, add, remove, reinstate, search, edited, outcome, step, run, saysDone, isDone, recordOf, blocksIn, blocksOf, isLiveIn, Content, contentOf, Good, Sent, AllSent}
 use Rattle.promise.specs.Promises.{Own, ByOne, EditByEdit, ContentStays, Removes, NoneRemoves, BridgeStays, Footbridge}
 use Rattle.promise.proofs.Moves.{Moved}
 use Rattle.promise.proofs.Contents.{live-same, content-same, good-of, object-kept, removed-dead, erased-dead, reinstated-live, reinstated-content, free-dead, added-live, added-content}
@@ -78,13 +77,13 @@ own-of {st} g (reinstate e t) a d =
       now g a d (d .slot) ∙ reinstated-live (holds-of g) (d .moved) (g .map-bytes) (f .1) (f .2),
       reinstated-content (holds-of g) (d .moved) (g .map-bytes) (f .1) (f .2),
     )
-own-of {st} g (search w) a d = d .effect
+own-of {st} g (search w l) a d = d .effect
 
 by-one : {st : State} (g : Good st) (c : Call) → Sent c → Did st c (g .blocks) → ByOne st c
 by-one {st} g c a d =
     record {
       slot = d .slot;
-      answered = rw (d .answer);
+      answered = rw (d .said);
       own = own-of g c a d;
       others = λ s ne. now g a d s ∙ live-same (holds-of g) (d .moved) s ne ∙ sym (before g a d s);
       contents = λ s ne l. content-same (holds-of g) (d .moved) s ne (sym (before g a d s) ∙ l);
@@ -144,7 +143,7 @@ module _ {st : State} (g : Good st) (m₀ : List ℕ) (s : ℕ) (x : Dormant m�
   dormant-own (add e o) a d q = absurd (x .some (sym (dormant-len x) ∙ (rw q (d .effect .0 (rw q at (x .exists))))))
   dormant-own (remove e t) a d q = (0, rw q (d .effect .2), inl refl)
   dormant-own (reinstate e t) a d q = (objectSym (st .map) s, rw q (d .effect .2), inr (dormant-sym x))
-  dormant-own (search w) a d q = absurd (d .effect)
+  dormant-own (search w l) a d q = absurd (d .effect)
 
   dormant-slot : (c : Call) → Sent c → (d : Did st c (g .blocks)) → (y : ℕ) × (slotIn (step st c .map) s ≡ resym (slotIn (st .map) s) y) × ((y ≡ 0) ⊎ (y ≡ slotIn m₀ s .sym))
   dormant-slot c a d =
@@ -216,7 +215,7 @@ live-step {st} g c a s keep l =
     here (add e o) a d n q = own-of g (add e o) a d .1
     here (remove e t) a d n q = absurd (n (sym (d .effect .0) ∙ sym q))
     here (reinstate e t) a d n q = own-of g (reinstate e t) a d .2
-    here (search w) a d n q = absurd (d .effect)
+    here (search w l) a d n q = absurd (d .effect)
 
 live-run : {st : State} (g : Good st) (cs : List Call) → AllSent cs → (s : ℕ) → NoneRemoves s cs → isLiveIn st s ≡ true → isLiveIn (run st cs) s ≡ true
 unfolding run
@@ -224,7 +223,7 @@ live-run g [] a s keep l = l
 live-run g (c ∷ cs) a s keep l = live-run (step-good g c (a .0)) cs (a .1) s (keep .1) (live-step g c (a .0) s (keep .0) l)
 
 -- a removal that is held under its number and slot is answered "done before"
-repeated : {st : State} (g : Good st) (e s : ℕ) → Keeps (st .journal) e (recordFor e 2 s) → (e ≡ 0 → ⊥) → outcome st (remove e s) .answer ≡ Before s (st .used)
+repeated : {st : State} (g : Good st) (e s : ℕ) → Keeps (st .journal) e (recordFor e 2 s) → (e ≡ 0 → ⊥) → outcome st (remove e s) .said ≡ edited (Before s (st .used))
 unfolding changed startOf looked repeatChange
 repeated {st} g e s k ne =
     rw (g .accepted, ne-eqb e 0 ne, g .well, k .held, k .is, eq-eqb s s refl)
@@ -263,8 +262,8 @@ footbridge st e f s cs ds g a b sc sd i₁ i₂ keep =
     let x₄ = dormant-run (x₂ .0) (st .map) s (x₂ .1) (reinstate f s ∷ ds) (b, sd) in
     let said = repeated g₄ e s k₄ (shape-tells (recordOf (remove e s) (d₁ .slot)) (d₁ .shape) .number) in
     record {
-      answer = said;
-      unchanged = nothing-else now (remove e s) (unfold isDone in ap isDoneAnswer said);
+      said = said;
+      unchanged = nothing-else .0 now (remove e s) (unfold isDone in ap saysDone said);
       live = live₄;
       content = content x₄ live₄;
     }

@@ -9,6 +9,7 @@ use lib.ListN.{length, getD}
 use Rattle.numbers.specs.Bytes.{Bytes}
 use Rattle.numbers.proofs.Below.{never}
 use Rattle.records.specs.declared.JournalRecord.{JournalRecord}
+use Rattle.records.specs.declared.Window.{Window}
 use Rattle.records.specs.Journals.{recordFor, shapeGood}
 use Rattle.records.proofs.Journals.{RecordFits}
 use Rattle.accept.specs.declared.Verdict.the-variants as verdicts
@@ -27,9 +28,10 @@ use Rattle.accept.proofs.Telling.{and-true}
 use Rattle.edit.specs.Slots.{slotIn, hasState, resym, withSym, objectSym, canReinstate, allowedFor, symFor, freeSlot}
 use Rattle.edit.specs.Objects.{offeredGood}
 use Rattle.edit.proofs.Syms.{has-tells}
-use Rattle.edit.specs.Edits.{Outcome, changed, added, newLength, addedMap, slotAdded}
-use Rattle.promise.specs.Runs.{State, Call, add, remove, reinstate, search, outcome, lengthAfter, next, step, isDoneAnswer, isDone, recordOf, Edited, applied, Good, Sent}
-use Rattle.promise.specs.Promises.{edited}
+use Rattle.edit.specs.Edits as edits
+use Rattle.edit.specs.Edits.{changed, added, newLength, addedMap, slotAdded}
+use Rattle.promise.specs.Runs.{State, Call, add, remove, reinstate, search, edited, Outcome, outcome, ofEdit, lengthAfter, next, step, saysDone, isDone, recordOf, Map, applied, Good, Sent}
+use Rattle.promise.specs.Promises.{mapOf}
 use Rattle.promise.proofs.Bytes.{appended-bytes, sym-bytes, added-bytes}
 use Rattle.promise.proofs.Steps.{Still, DoneChange, DoneAdd, change-cases, add-cases}
 use Rattle.promise.proofs.Moves.{Moved, moved-use, moved-here, object-sym-fits, changed-slot, remove-moved, reinstate-moved, blocksAfter, added-grown, free-before, added-moved}
@@ -40,14 +42,14 @@ Effect (add e o) m used n m′ s =
     (s < 256 * n → slotIn m s .len ≡ 0) × (slotIn m′ s ≡ slotAdded m used o) × (offeredGood (versionOf m) o ≡ true) × ((i : ℕ) → i < length o → getD m′ (used + i) 0 ≡ getD o i 0)
 Effect (remove e t) m used n m′ s = (s ≡ t) × (hasState Live m n s ≡ true) × (slotIn m′ s ≡ resym (slotIn m s) 0)
 Effect (reinstate e t) m used n m′ s = (s ≡ t) × (canReinstate m used n s ≡ true) × (slotIn m′ s ≡ resym (slotIn m s) (objectSym m s))
-Effect (search w) m used n m′ s = ⊥
+Effect (search w l) m used n m′ s = ⊥
 
 -- a done call c: its slot and its record, and what it has moved
 pub record Did (st : State) (c : Call) (n : ℕ) : Type 0 where
   pub slot : ℕ
   pub own : recordOf c slot .slot ≡ slot
   pub blocks : ℕ
-  pub answer : outcome st c .answer ≡ Done slot (step st c .used)
+  pub said : outcome st c .said ≡ edited (Done slot (step st c .used))
   pub moved : Moved (st .map) (step st c .map) (st .used) (step st c .used) n blocks slot
   pub fresh : isHeld (st .journal) (recordOf c slot .number) ≡ false
   pub well : wellFormed (st .journal) (st .map) n ≡ true
@@ -56,7 +58,7 @@ pub record Did (st : State) (c : Call) (n : ℕ) : Type 0 where
   pub shape : shapeGood (recordOf c slot) ≡ true
   pub journal : step st c .journal ≡ appended (st .journal) (recordOf c slot)
   pub bytes : Bytes (step st c .map)
-  pub applies : edited (step st c) ≡ applied c (edited st)
+  pub applies : mapOf (step st c) ≡ applied c (mapOf st)
   pub effect : Effect c (st .map) (st .used) n (step st c .map) slot
 
 -- a slot's number fits 32 bits
@@ -67,8 +69,8 @@ record-good : (e kind s : ℕ) → e < 2 ^ 32 → (e ≡ 0 → ⊥) → 1 ≤ ki
 record-good e kind s f ne a b g =
     (record { number = f; kind = omega arith; slot = g; zeros = omega arith }, shape-is (recordFor e kind s) (record { number = ne; least = a; most = b; zeros = refl }))
 
-edited-ext : {m m′ : List ℕ} {used used′ : ℕ} → m ≡ m′ → used ≡ used′ → _≡_ {A = Edited} (record { map = m; used = used }) (record { map = m′; used = used′ })
-edited-ext a b = λ i. record { map = a i; used = b i }
+map-ext : {m m′ : List ℕ} {used used′ : ℕ} → m ≡ m′ → used ≡ used′ → _≡_ {A = Map} (record { map = m; used = used }) (record { map = m′; used = used′ })
+map-ext a b = λ i. record { map = a i; used = b i }
 
 -- a slot that can be reinstated exists
 can-exists : (m : List ℕ) (used n s : ℕ) → canReinstate m used n s ≡ true → s < 256 * n
@@ -76,10 +78,10 @@ unfolding canReinstate
 can-exists m used n s e = has-tells Erased m n s (and-true (hasState Erased m n s) _ e .0) .0
 
 -- a call that is not done leaves the state
-still-same : (st : State) (out : Outcome) → Still (st .map) (st .journal) out → next (st .used) out ≡ st
+still-same : (st : State) (out : edits.Outcome) → Still (st .map) (st .journal) out → next (st .used) (ofEdit out) ≡ st
 still-same st out s = λ i. record { map = s .map i; used = same (out .answer) (s .idle) i; journal = s .journal i }
   where
-    same : (a : Answer) → isDoneAnswer a ≡ false → lengthAfter a (st .used) ≡ st .used
+    same : (a : Answer) → saysDone (edited a) ≡ false → lengthAfter (edited a) (st .used) ≡ st .used
     same (Done t l) e = absurd (never e)
     same (Before t l) e = refl
     same (Refused n p) e = refl
@@ -88,53 +90,60 @@ pub record Idle (st : State) (c : Call) : Type 0 where
   pub same : step st c ≡ st
   pub idle : isDone st c ≡ false
 
-pub idle-of : (st : State) (c : Call) → Still (st .map) (st .journal) (outcome st c) → Idle st c
+pub idle-of : (st : State) (c : Call) {out : edits.Outcome} → outcome st c ≡ ofEdit out → Still (st .map) (st .journal) out → Idle st c
 unfolding step isDone
-idle-of st c s = record { same = still-same st (outcome st c) s; idle = s .idle }
+idle-of st c {out} is s =
+    record { same = ap (next (st .used)) is ∙ still-same st out s; idle = ap (λ (x : Outcome). saysDone (x .said)) is ∙ s .idle }
+
+pub idle-search : (st : State) (w : Window) (l : List ℕ) → Idle st (search w l)
+unfolding step isDone
+idle-search st w l = record { same = refl; idle = refl }
 
 module _ {st : State} (g : Good st) where
   h : Holds (st .map) (st .used) (g .blocks)
   h = accepted-tells (st .map) (st .used) (g .blocks) (g .accepted)
 
   -- a removal or a reinstatement, by its kind
-  module _ (c : Call) (e kind s : ℕ) (is : outcome st c ≡ changed (st .map) (st .used) (st .journal) e kind s) (rec : recordOf c s ≡ recordFor e kind s)
-      (applies : applied c (edited st) ≡ record { map = withSym (st .map) s (symFor kind (st .map) s); used = st .used })
+  module _ (c : Call) (e kind s : ℕ) (is : outcome st c ≡ ofEdit (changed (st .map) (st .used) (st .journal) e kind s)) (rec : recordOf c s ≡ recordFor e kind s)
+      (applies : applied c (mapOf st) ≡ record { map = withSym (st .map) s (symFor kind (st .map) s); used = st .used })
       (effects : allowedFor kind (st .map) (st .used) (g .blocks) s ≡ true → Effect c (st .map) (st .used) (g .blocks) (withSym (st .map) s (symFor kind (st .map) s)) s)
       (least : 1 ≤ kind) (most : kind ≤ 3) (fits : e < 2 ^ 32)
       (moves : allowedFor kind (st .map) (st .used) (g .blocks) s ≡ true → Moved (st .map) (withSym (st .map) s (symFor kind (st .map) s)) (st .used) (st .used) (g .blocks) (g .blocks) s) where
-    did-change : DoneChange (st .map) (st .used) (st .journal) e kind s (g .blocks) (outcome st c) → Did st c (g .blocks)
+    did-change : DoneChange (st .map) (st .used) (st .journal) e kind s (g .blocks) (changed (st .map) (st .used) (st .journal) e kind s) → Did st c (g .blocks)
     unfolding step
     did-change d =
         let mv = moves (d .allowed) in
         let r = record-good e kind s fits (d .number) least most (slot-fits h s (mv .here)) in
-        let len : lengthAfter (outcome st c .answer) (st .used) ≡ st .used = rw (d .answer) in
+        let said : outcome st c .said ≡ edited (Done s (st .used)) = rw (is, d .answer) in
+        let map : outcome st c .map ≡ withSym (st .map) s (symFor kind (st .map) s) = rw is (d .map) in
+        let len : lengthAfter (outcome st c .said) (st .used) ≡ st .used = rw said in
         record {
           slot = s;
           own = rw rec;
           blocks = g .blocks;
-          answer = rw len (d .answer);
-          moved = rw (len, d .map) mv;
+          said = rw len said;
+          moved = rw (len, map) mv;
           fresh = rw rec (d .fresh);
           well = d .well;
           room = d .room;
           fits = rw rec (r .0);
           shape = rw rec (r .1);
-          journal = rw rec (d .journal);
-          bytes = rw (d .map) (sym-bytes (st .map) s (symFor kind (st .map) s) (g .map-bytes));
-          applies = edited-ext (d .map) len ∙ sym applies;
-          effect = rw (d .map) (effects (d .allowed));
+          journal = rw (rec, is) (d .journal);
+          bytes = rw map (sym-bytes (st .map) s (symFor kind (st .map) s) (g .map-bytes));
+          applies = map-ext map len ∙ sym applies;
+          effect = rw map (effects (d .allowed));
         }
 
     change-step : Idle st c ⊎ Did st c (g .blocks)
     change-step =
         ⊎-elim
-        (λ x. inl (idle-of st c (rw is x)))
-        (λ d. inr (did-change (rw is d)))
+        (λ x. inl (idle-of st c is x))
+        (λ d. inr (did-change d))
         (change-cases (st .map) (st .used) (st .journal) e kind s (g .blocks) (g .accepted))
 
   -- an add
   module _ (e : ℕ) (o : List ℕ) (fits : e < 2 ^ 32) (bytes : Bytes o) where
-    add-applies : applied (add e o) (edited st) ≡ record { map = addedMap (st .map) (st .used) (g .blocks) o; used = newLength (st .map) (st .used) (g .blocks) o }
+    add-applies : applied (add e o) (mapOf st) ≡ record { map = addedMap (st .map) (st .used) (g .blocks) o; used = newLength (st .map) (st .used) (g .blocks) o }
     unfolding applied
     add-applies = rw (g .accepted)
 
@@ -144,12 +153,12 @@ module _ {st : State} (g : Good st) where
         let mv = added-moved h o bytes (d .offered) (d .limit) (d .fits) in
         let gr = added-grown h o bytes (d .offered) (d .limit) (d .fits) in
         let r = record-good e 1 (freeSlot (st .map) (g .blocks)) fits (d .number) (omega arith) (omega arith) (slot-fits (mv .holds) (freeSlot (st .map) (g .blocks)) (mv .here)) in
-        let len : lengthAfter (added (st .map) (st .used) (st .journal) e o .answer) (st .used) ≡ newLength (st .map) (st .used) (g .blocks) o = rw (d .answer) in
+        let len : lengthAfter (edited (added (st .map) (st .used) (st .journal) e o .answer)) (st .used) ≡ newLength (st .map) (st .used) (g .blocks) o = rw (d .answer) in
         record {
           slot = freeSlot (st .map) (g .blocks);
           own = refl;
           blocks = blocksAfter h o bytes (d .offered) (d .limit) (d .fits);
-          answer = rw len (d .answer);
+          said = rw len (ap edited (d .answer));
           moved = rw (len, d .map) mv;
           fresh = d .fresh;
           well = d .well;
@@ -158,19 +167,19 @@ module _ {st : State} (g : Good st) where
           shape = r .1;
           journal = d .journal;
           bytes = rw (d .map) (added-bytes (st .map) (st .used) (g .blocks) o (g .map-bytes) bytes);
-          applies = edited-ext (d .map) len ∙ sym add-applies;
+          applies = map-ext (d .map) len ∙ sym add-applies;
           effect = rw (d .map) (free-before h o bytes (d .offered) (d .limit) (d .fits), gr .new, d .offered, gr .stored);
         }
 
     add-step : Idle st (add e o) ⊎ Did st (add e o) (g .blocks)
-    add-step = ⊎-elim (λ x. inl (idle-of st (add e o) x)) (λ d. inr (did-add d)) (add-cases (st .map) (st .used) (st .journal) e o (g .blocks) (g .accepted))
+    add-step = ⊎-elim (λ x. inl (idle-of st (add e o) refl x)) (λ d. inr (did-add d)) (add-cases (st .map) (st .used) (st .journal) e o (g .blocks) (g .accepted))
 
   -- every call: it is not done and changes nothing, or it is done
   pub call-cases : (c : Call) → Sent c → Idle st c ⊎ Did st c (g .blocks)
   call-cases (add e o) a = add-step e o (a .0) (a .1)
   call-cases (remove e s) a = change-step (remove e s) e 2 s refl refl (unfold applied in refl) (λ k. (refl, k, changed-slot h (g .map-bytes) s (has-tells Live (st .map) (g .blocks) s k .0) 0 (omega arith))) (omega arith) (omega arith) (a .0) (λ k. remove-moved h (g .map-bytes) s k)
   call-cases (reinstate e s) a = change-step (reinstate e s) e 3 s refl refl (unfold applied in refl) (λ k. (refl, k, changed-slot h (g .map-bytes) s (can-exists (st .map) (st .used) (g .blocks) s k) (objectSym (st .map) s) (object-sym-fits h (g .map-bytes) s))) (omega arith) (omega arith) (a .0) (λ k. reinstate-moved h (g .map-bytes) s k)
-  call-cases (search w) a = inl (idle-of st (search w) (record { map = refl; journal = refl; idle = refl }))
+  call-cases (search w l) a = inl (idle-search st w l)
 
 -- what is done keeps the state good
 unfoldable pub did-good : {st : State} {c : Call} {n : ℕ} → Good st → Did st c n → Good (step st c)

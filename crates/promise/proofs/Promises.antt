@@ -19,11 +19,10 @@ use Rattle.accept.proofs.Writes.{pass-of}
 use Rattle.journal.specs.Journals.{isHeld, holder, recordIn, recordsOf}
 use Rattle.journal.proofs.Journals.{room-of, recordsOf-appended, length-appended, appended-keeps, appended-record-kept}
 use Rattle.edit.specs.declared.Answer.the-variants.{Done}
-use Rattle.edit.specs.Edits.{slotNo}
-use Rattle.promise.specs.Runs.{State, Call, add, remove, reinstate, search, outcome, step, run, isDone, doneIn, recordsIn, recordOf, blocksIn, blocksOf, appliedAll, applied, Good, Sent, AllSent}
-use Rattle.promise.specs.Promises.{StaysGood, Ends, IndexEnds, SlotNumbersStay, edited, AppliedOnce, JournalGrows, editNumber, NeverActsAgain, NothingElse}
+use Rattle.promise.specs.Runs.{State, Call, add, remove, reinstate, search, outcome, step, run, slotSaid, isDone, doneIn, recordsIn, recordOf, blocksIn, blocksOf, appliedAll, applied, Good, Sent, AllSent}
+use Rattle.promise.specs.Promises.{StaysGood, Ends, IndexEnds, SlotNumbersStay, mapOf, AppliedOnce, JournalGrows, editNumber, NeverActsAgain, NothingElse}
 use Rattle.promise.proofs.Steps.{change-idle, add-idle}
-use Rattle.promise.proofs.Keeping.{Did, Idle, idle-of, call-cases, did-good, step-good}
+use Rattle.promise.proofs.Keeping.{Did, Idle, idle-of, idle-search, call-cases, did-good, step-good}
 
 pub stays-good : StaysGood
 unfolding run
@@ -76,22 +75,22 @@ slot-numbers-stay st (c ∷ cs) g a =
 
 did-done : {st : State} {c : Call} {n : ℕ} → Did st c n → isDone st c ≡ true
 unfolding isDone
-did-done d = rw (d .answer)
+did-done d = rw (d .said)
 
 pub applied-once : AppliedOnce
 unfolding run doneIn appliedAll
 applied-once st [] g a = refl
 applied-once st (c ∷ cs) g a =
     ⊎-elim
-    (λ (i : Idle st c). rw (i .idle) (applied-once (step st c) cs (step-good g c (a .0)) (a .1) ∙ ap (λ (x : State). appliedAll (doneIn (step st c) cs) (edited x)) (i .same)))
+    (λ (i : Idle st c). rw (i .idle) (applied-once (step st c) cs (step-good g c (a .0)) (a .1) ∙ ap (λ (x : State). appliedAll (doneIn (step st c) cs) (mapOf x)) (i .same)))
     (λ (d : Did st c (g .blocks)). rw (did-done d) (applied-once (step st c) cs (step-good g c (a .0)) (a .1) ∙ ap (appliedAll (doneIn (step st c) cs)) (d .applies)))
     (call-cases g c (a .0))
 
 -- ---- the journal
 
-did-records : {st : State} {c : Call} {n : ℕ} → Good st → (d : Did st c n) → recordsOf (step st c .journal) ≡ recordsOf (st .journal) ++ (recordOf c (slotNo (outcome st c .answer)) ∷ [])
+did-records : {st : State} {c : Call} {n : ℕ} → Good st → (d : Did st c n) → recordsOf (step st c .journal) ≡ recordsOf (st .journal) ++ (recordOf c (slotSaid (outcome st c .said)) ∷ [])
 did-records {st} {c} {n} g d =
-    rw (d .journal, d .answer) (recordsOf-appended (st .journal) (recordOf c (d .slot)) (room-of (st .journal) (st .map) n (d .well) (d .room)) (d .fits) (d .shape))
+    rw (d .journal, d .said) (recordsOf-appended (st .journal) (recordOf c (d .slot)) (room-of (st .journal) (st .map) n (d .well) (d .room)) (d .fits) (d .shape))
 
 pub journal-grows : JournalGrows
 unfolding run recordsIn
@@ -102,19 +101,22 @@ journal-grows st (c ∷ cs) g a =
     (λ (i : Idle st c). rw (i .idle) (r .0 ∙ ap (λ (x : State). recordsOf (x .journal) ++ recordsIn (step st c) cs) (i .same), r .1 ∙ ap (λ (x : State). length (x .journal)) (i .same)))
     (λ (d : Did st c (g .blocks)).
     rw (did-done d) (
-      r .0 ∙ ap (λ (x : List JournalRecord). x ++ recordsIn (step st c) cs) (did-records g d) ∙ append-assoc (recordsOf (st .journal)) (recordOf c (slotNo (outcome st c .answer)) ∷ []) (recordsIn (step st c) cs),
+      r .0 ∙ ap (λ (x : List JournalRecord). x ++ recordsIn (step st c) cs) (did-records g d) ∙ append-assoc (recordsOf (st .journal)) (recordOf c (slotSaid (outcome st c .said)) ∷ []) (recordsIn (step st c) cs),
       r .1 ∙ ap length (d .journal) ∙ length-appended (st .journal) (recordOf c (d .slot)),
     ))
     (call-cases g c (a .0))
 
 -- ---- what is not done changes nothing
 
-pub nothing-else : NothingElse
+not-done : (st : State) (c : Call) → isDone st c ≡ false → step st c ≡ st
 unfolding isDone
-nothing-else st (add e o) i = idle-of st (add e o) (add-idle (st .map) (st .used) (st .journal) e o (verdict (st .map) (st .used)) refl i) .same
-nothing-else st (remove e s) i = idle-of st (remove e s) (change-idle (st .map) (st .used) (st .journal) e 2 s (verdict (st .map) (st .used)) refl i) .same
-nothing-else st (reinstate e s) i = idle-of st (reinstate e s) (change-idle (st .map) (st .used) (st .journal) e 3 s (verdict (st .map) (st .used)) refl i) .same
-nothing-else st (search w) i = idle-of st (search w) (record { map = refl; journal = refl; idle = refl }) .same
+not-done st (add e o) i = idle-of st (add e o) refl (add-idle (st .map) (st .used) (st .journal) e o (verdict (st .map) (st .used)) refl i) .same
+not-done st (remove e s) i = idle-of st (remove e s) refl (change-idle (st .map) (st .used) (st .journal) e 2 s (verdict (st .map) (st .used)) refl i) .same
+not-done st (reinstate e s) i = idle-of st (reinstate e s) refl (change-idle (st .map) (st .used) (st .journal) e 3 s (verdict (st .map) (st .used)) refl i) .same
+not-done st (search w l) i = idle-search st w l .same
+
+pub nothing-else : NothingElse
+nothing-else = (not-done, λ st w l. idle-search st w l .same)
 
 -- ---- a number that is held
 
@@ -145,7 +147,7 @@ number-of : (c : Call) (s : ℕ) → recordOf c s .number ≡ editNumber c
 number-of (add e o) s = refl
 number-of (remove e t) s = refl
 number-of (reinstate e t) s = refl
-number-of (search w) s = refl
+number-of (search w l) s = refl
 
 pub never-acts-again : NeverActsAgain
 never-acts-again st cs c g a b h =

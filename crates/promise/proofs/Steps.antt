@@ -29,7 +29,7 @@ use Rattle.edit.specs.declared.Start.the-variants as starts
 use Rattle.edit.specs.Slots.{slotIn, withSym, allowedFor, symFor, freeSlot}
 use Rattle.edit.specs.Objects.{offeredGood, isObject}
 use Rattle.edit.specs.Edits.{Outcome, saying, after, afterCheck, afterLook, startOf, repeatChange, freshChange, changed, newLength, addedMap, repeatAdd, freshAdd, added}
-use Rattle.promise.specs.Runs.{isDoneAnswer}
+use Rattle.promise.specs.Runs.{edited, saysDone}
 
 -- ---- an edit's outcome by cases
 
@@ -37,9 +37,9 @@ use Rattle.promise.specs.Runs.{isDoneAnswer}
 pub record Still (m j : List ℕ) (out : Outcome) : Type 0 where
   pub map : out .map ≡ m
   pub journal : out .journal ≡ j
-  pub idle : isDoneAnswer (out .answer) ≡ false
+  pub idle : saysDone (edited (out .answer)) ≡ false
 
-still : (m j : List ℕ) (a : Answer) → isDoneAnswer a ≡ false → Still m j (saying m j a)
+still : (m j : List ℕ) (a : Answer) → saysDone (edited a) ≡ false → Still m j (saying m j a)
 still m j a e = record { map = refl; journal = refl; idle = e }
 
 -- how an edit starts, in a map that is accepted
@@ -168,12 +168,12 @@ any-start : (m : List ℕ) (used : ℕ) (j : List ℕ) (e k p : ℕ) → verdict
 unfolding startOf
 any-start m used j e k p v = rw v
 
-pub change-idle : (m : List ℕ) (used : ℕ) (j : List ℕ) (e kind s : ℕ) (v : Verdict) → verdict m used ≡ v → isDoneAnswer (changed m used j e kind s .answer) ≡ false → Still m j (changed m used j e kind s)
+pub change-idle : (m : List ℕ) (used : ℕ) (j : List ℕ) (e kind s : ℕ) (v : Verdict) → verdict m used ≡ v → saysDone (edited (changed m used j e kind s .answer)) ≡ false → Still m j (changed m used j e kind s)
 change-idle m used j e kind s (verdicts.Accepted n) q i =
-    ⊎-elim (λ x. x) (λ d. absurd (never (sym (ap isDoneAnswer (d .answer)) ∙ i))) (change-cases m used j e kind s n q)
+    ⊎-elim (λ x. x) (λ d. absurd (never (sym (ap (λ a. saysDone (edited a)) (d .answer)) ∙ i))) (change-cases m used j e kind s n q)
 change-idle m used j e kind s (verdicts.Refused k p) q i = unfold changed in rw (any-start m used j e k p q) (still m j (Refused k p) refl)
 
-pub add-idle : (m : List ℕ) (used : ℕ) (j : List ℕ) (e : ℕ) (o : List ℕ) (v : Verdict) → verdict m used ≡ v → isDoneAnswer (added m used j e o .answer) ≡ false → Still m j (added m used j e o)
+pub add-idle : (m : List ℕ) (used : ℕ) (j : List ℕ) (e : ℕ) (o : List ℕ) (v : Verdict) → verdict m used ≡ v → saysDone (edited (added m used j e o .answer)) ≡ false → Still m j (added m used j e o)
 add-idle m used j e o (verdicts.Accepted n) q i =
-    ⊎-elim (λ x. x) (λ d. absurd (never (sym (ap isDoneAnswer (d .answer)) ∙ i))) (add-cases m used j e o n q)
+    ⊎-elim (λ x. x) (λ d. absurd (never (sym (ap (λ a. saysDone (edited a)) (d .answer)) ∙ i))) (add-cases m used j e o n q)
 add-idle m used j e o (verdicts.Refused k p) q i = unfold added in rw (any-start m used j e k p q) (still m j (Refused k p) refl)

@@ -5,19 +5,20 @@ use mathlib.Core.Bool.{true, false}
 use mathlib.Core.Path.{_≡_}
 use mathlib.Core.Logic.{_↔_}
 use mathlib.Core.List.{List, [], _∷_, _++_}
-use lib.ListN.{length}
+use lib.ListN.{length, getD, take, drop}
 use Rattle.numbers.specs.Ranges.{share}
 use Rattle.records.specs.declared.Window.{Window}
-use Rattle.records.specs.Windows.{meetsWindow}
+use Rattle.records.specs.Windows.{windowGood, meetsWindow}
 use Rattle.records.specs.Sizes.{headerSize, indexBlockSize}
 use Rattle.records.specs.Headers.{indexHead}
 use Rattle.chain.specs.Chains.{block}
-use Rattle.find.specs.Searches.{found, In}
+use Rattle.find.specs.declared.Answer.the-variants.{Found, Short, Refused}
+use Rattle.find.specs.Searches.{In}
 use Rattle.journal.specs.Journals.{isHeld, recordsOf}
 use Rattle.edit.specs.declared.Answer.the-variants.{Before}
 use Rattle.edit.specs.Slots.{slotIn, resym, objectSym}
-use Rattle.edit.specs.Edits.{slotAdded, slotNo}
-use Rattle.promise.specs.Runs.{State, Call, add, remove, reinstate, search, outcome, step, run, isDone, doneIn, recordsIn, blocksIn, Edited, appliedAll, isLiveIn, contentOf, Good, Sent, AllSent}
+use Rattle.edit.specs.Edits.{slotAdded}
+use Rattle.promise.specs.Runs.{State, Call, add, remove, reinstate, search, Said, edited, searched, outcome, step, run, slotSaid, isDone, doneIn, recordsIn, blocksIn, Map, appliedAll, isLiveIn, contentOf, Good, Sent, AllSent}
 
 -- ---- "after any run of adds, removals, reinstatements and searches, refused and repeated ones among them, the map is accepted"; and the journal is well
 -- formed for it
@@ -41,11 +42,11 @@ SlotNumbersStay =
     × ((k : ℕ) → k < blocksIn (st .map) (st .used) → block indexHead (run st cs .map) k ≡ block indexHead (st .map) k)
 
 -- ---- "its live slots, with contents, are those of the first map with each edit done here applied once, in the order first done": the whole map is
-abbrev pub edited : State → Edited
-edited st = record { map = st .map; used = st .used }
+abbrev pub mapOf : State → Map
+mapOf st = record { map = st .map; used = st .used }
 
 abbrev pub AppliedOnce : Type 0
-AppliedOnce = (st : State) (cs : List Call) → Good st → AllSent cs → edited (run st cs) ≡ appliedAll (doneIn st cs) (edited st)
+AppliedOnce = (st : State) (cs : List Call) → Good st → AllSent cs → mapOf (run st cs) ≡ appliedAll (doneIn st cs) (mapOf st)
 
 -- ---- and edit by edit: the live slots with their contents change in the edit's own slot alone
 abbrev pub Own : State → Call → ℕ → Type 0
@@ -56,11 +57,11 @@ Own st (remove e t) s = (s ≡ t) × (isLiveIn st s ≡ true) × (isLiveIn (step
 Own st (reinstate e t) s =
     (s ≡ t) × (isLiveIn st s ≡ false) × (isLiveIn (step st (reinstate e t)) s ≡ true)
     × (contentOf (step st (reinstate e t) .map) s ≡ record { slot = resym (slotIn (st .map) s) (objectSym (st .map) s); object = contentOf (st .map) s .object })
-Own st (search w) s = ⊥
+Own st (search w l) s = ⊥
 
 pub record ByOne (st : State) (c : Call) : Type 0 where
   pub slot : ℕ
-  pub answered : slotNo (outcome st c .answer) ≡ slot
+  pub answered : slotSaid (outcome st c .said) ≡ slot
   pub own : Own st c slot
   pub others : (d : ℕ) → (d ≡ slot → ⊥) → isLiveIn (step st c) d ≡ isLiveIn st d
   pub contents : (d : ℕ) → (d ≡ slot → ⊥) → isLiveIn st d ≡ true → contentOf (step st c .map) d ≡ contentOf (st .map) d
@@ -68,18 +69,33 @@ pub record ByOne (st : State) (c : Call) : Type 0 where
 abbrev pub EditByEdit : Type 0
 EditByEdit = (st : State) (c : Call) → Good st → Sent c → isDone st c ≡ true → ByOne st c
 
--- ---- a search, at any time of a run, lists exactly the live slots whose rectangles meet the window
-abbrev pub SearchFinds : Type 0
-SearchFinds =
-    (st : State) (w : Window) (s : ℕ) → Good st
-    → In s (found (st .map) (blocksIn (st .map) (st .used)) w) ↔ ((isLiveIn st s ≡ true) × (meetsWindow (contentOf (st .map) s .slot) w ≡ true))
+-- ---- a search, at any time of a run, lists exactly the live slots whose rectangles meet the window, ascending, in the first entries of its list, and the
+-- others keep what they held. It says how many they are, and how many blocks the chain has. A window with left > right or bottom > top gets 8, and a list
+-- shorter than the count gets 9 with the count needed; the list is then as it was
+pub record SearchSays (st : State) (w : Window) (l : List ℕ) : Type 0 where
+  pub slots : List ℕ
+  pub exactly : (s : ℕ) → In s slots ↔ ((isLiveIn st s ≡ true) × (meetsWindow (contentOf (st .map) s .slot) w ≡ true))
+  pub ascending : (i k : ℕ) → i < k → k < length slots → getD slots i 0 < getD slots k 0
+  pub finds : windowGood w ≡ true → length slots ≤ length l
+      → outcome st (search w l) .said ≡ searched (Found (length slots) (blocksIn (st .map) (st .used))) (slots ++ drop (length slots) l)
+  pub short : windowGood w ≡ true → length l < length slots → outcome st (search w l) .said ≡ searched (Short (length slots)) l
+  pub refused : windowGood w ≡ false → outcome st (search w l) .said ≡ searched (Refused 8 0) l
 
--- ---- and so it finds an added object, in every window that the least rectangle over its pairs meets
+abbrev pub SearchFinds : Type 0
+SearchFinds = (st : State) (w : Window) (l : List ℕ) → Good st → SearchSays st w l
+
+-- ---- and so it lists an added object, in every window that the least rectangle over its pairs meets, unless the list is shorter than the count
+abbrev pub Lists : ℕ → List ℕ → Said → Type 0
+Lists s l (edited a) = ⊥
+Lists s l (searched (Found c b) after) = In s (take c after)
+Lists s l (searched (Short c) after) = length l < c
+Lists s l (searched (Refused n p) after) = ⊥
+
 abbrev pub AddedIsFound : Type 0
 AddedIsFound =
-    (st : State) (e : ℕ) (o : List ℕ) (w : Window) → Good st → Sent (add e o) → isDone st (add e o) ≡ true
-    → meetsWindow (slotAdded (st .map) (st .used) o) w ≡ true
-    → In (slotNo (outcome st (add e o) .answer)) (found (step st (add e o) .map) (blocksIn (step st (add e o) .map) (step st (add e o) .used)) w)
+    (st : State) (e : ℕ) (o : List ℕ) (w : Window) (l : List ℕ) → Good st → Sent (add e o) → isDone st (add e o) ≡ true
+    → windowGood w ≡ true → meetsWindow (slotAdded (st .map) (st .used) o) w ≡ true
+    → Lists (slotSaid (outcome st (add e o) .said)) l (outcome (step st (add e o)) (search w l) .said)
 
 -- ---- a slot that was live, and is live again after removals and reinstatements, has the content it had
 abbrev pub ContentStays : Type 0
@@ -98,16 +114,18 @@ abbrev pub editNumber : Call → ℕ
 editNumber (add e o) = e
 editNumber (remove e s) = e
 editNumber (reinstate e s) = e
-editNumber (search w) = 0
+editNumber (search w l) = 0
 
 abbrev pub NeverActsAgain : Type 0
 NeverActsAgain =
     (st : State) (cs : List Call) (c : Call) → Good st → AllSent cs → Sent c → isHeld (st .journal) (editNumber c) ≡ true
     → (step (run st cs) c ≡ run st cs) × (isDone (run st cs) c ≡ false)
 
--- ---- searches and refusals change nothing
+-- ---- refusals and "done before" change nothing, and neither does a search
 abbrev pub NothingElse : Type 0
-NothingElse = (st : State) (c : Call) → isDone st c ≡ false → step st c ≡ st
+NothingElse =
+    ((st : State) (c : Call) → isDone st c ≡ false → step st c ≡ st)
+    × ((st : State) (w : Window) (l : List ℕ) → step st (search w l) ≡ st)
 
 -- ---- the footbridge: removed under number e, drawn back in under number f, and the phone repeats the removal. It is answered "done before", and the bridge
 -- stays, with the content it had, whatever calls stand between that do not remove it
@@ -115,14 +133,14 @@ abbrev pub Removes : ℕ → Call → Type 0
 Removes s (add e o) = ⊥
 Removes s (remove e t) = t ≡ s
 Removes s (reinstate e t) = ⊥
-Removes s (search w) = ⊥
+Removes s (search w l) = ⊥
 
 abbrev pub NoneRemoves : ℕ → List Call → Type 0
 NoneRemoves s [] = Unit {0}
 NoneRemoves s (c ∷ cs) = (Removes s c → ⊥) × NoneRemoves s cs
 
 pub record BridgeStays (before now : State) (e s : ℕ) : Type 0 where
-  pub answer : outcome now (remove e s) .answer ≡ Before s (now .used)
+  pub said : outcome now (remove e s) .said ≡ edited (Before s (now .used))
   pub unchanged : step now (remove e s) ≡ now
   pub live : isLiveIn now s ≡ true
   pub content : contentOf (now .map) s ≡ contentOf (before .map) s
