@@ -150,3 +150,11 @@ plain-free m (Refused k p) = refl
 
 pub verdict-of : (m : List ℕ) (v : Verdict) {e : Examined} → e ≡ withFree m v → plain e ≡ v
 verdict-of m v f = ap plain f ∙ plain-free m v
+
+-- what an answer with the first free slot tells of the verdict
+pub accepted-free : (m : List ℕ) (v : Verdict) {e : Examined} {n f : ℕ} → e ≡ withFree m v → e ≡ examined.Accepted n f → (v ≡ Accepted n) × (f ≡ freeSlot m n)
+accepted-free m (Accepted k) {n} {f} p q =
+    let r : k ≡ n = cc in
+    let g : f ≡ freeSlot m k = cc in
+    (ap Accepted r, rw r at g)
+accepted-free m (Refused k p) q r = let z : _≡_ {A = ℕ} 0 1 = cc in let no-way : ⊥ = omega arith in absurd no-way

@@ -1,7 +1,5 @@
 -- The laws of an add, as the code makes it: the first free slot, the writes, and how an edit starts.
 --     lent-over           the whole after a run of stores at the start of a part that was lent to its end
---     noLen               whether the slot at a place has no Len, which is what makes it free
---     free-is             what shows that a slot is the first free one
 --     length-free ..      the new length and the new map, with a free slot and without
 --     block-put           a block of zeros with a slot stored in it is the block for that slot
 --     fresh-malformed ..  an add under a new number, by its tests in their order
@@ -50,33 +48,6 @@ use Rattle.edit.proofs.Objects.{offered-tells}
 pub lent-over : (vs xs ys : List ℕ) (a : ℕ) → a + length vs ≤ length xs → ys ≡ sets (take (length xs - a) (drop a xs)) 0 vs
     → take a xs ++ (ys ++ drop (length xs - a) (drop a xs)) ≡ sets xs a vs
 lent-over vs xs ys a h e = lent-sets vs xs ys a (length xs - a) (omega arith) e
-
--- ---- the first free slot
-
-abbrev pub noLen : List ℕ → ℕ → Bool
-noLen m p = eqb (u16At m (p + 20)) 0
-
-free-len : (m : List ℕ) (s : ℕ) → sameState Free (stateOf (slotIn m s)) ≡ noLen m (slotAt m s)
-unfolding slotIn slotOf stateOf
-free-len m s = go (noLen m (slotAt m s)) refl (eqb (u16At m (slotAt m s + 22)) 0) refl
-  where
-    go : (b : Bool) → noLen m (slotAt m s) ≡ b → (d : Bool) → eqb (u16At m (slotAt m s + 22)) 0 ≡ d → sameState Free (stateOf (slotIn m s)) ≡ noLen m (slotAt m s)
-    go true e d f = rw e
-    go false e true f = rw (e, f)
-    go false e false f = rw (e, f)
-
--- it is at most the number of slots, no slot before it is free, and it is free where it is a slot
-pub free-is : (m : List ℕ) (n s : ℕ) → s ≤ 256 * n → ((i : ℕ) → i < s → noLen m (slotAt m i) ≡ false) → (s < 256 * n → noLen m (slotAt m s) ≡ true) → s ≡ freeSlot m n
-unfolding freeSlot
-free-is m n s l before here =
-    sym
-    (first-is (λ i. sameState Free (stateOf (slotIn m i))) (256 * n) s l
-    (λ i g. free-len m i ∙ before i g)
-    (λ g. free-len m s ∙ here g))
-
-pub free-most : (m : List ℕ) (n : ℕ) → freeSlot m n ≤ 256 * n
-unfolding freeSlot
-free-most m n = first-law (λ i. sameState Free (stateOf (slotIn m i))) (256 * n) .within
 
 -- ---- with a free slot, and without
 
@@ -189,15 +160,15 @@ module _ (m : List ℕ) (used : ℕ) (j : List ℕ) (e : ℕ) where
   no-start : {A : Type 0} → _≡_ {A = ℕ} 0 1 → A
   no-start z = let no-way : ⊥ = omega arith in absurd no-way
 
-  look-held : (k n kind slot : ℕ) (l : Look) → afterLook k l ≡ starts.Held n kind slot → (k ≡ n) × (l ≡ Held kind slot)
+  look-held : (k n kind slot : ℕ) (l : Look) → afterLook m k l ≡ starts.Held n kind slot → (k ≡ n) × (l ≡ Held kind slot)
   look-held k n kind slot Malformed q = no-start (cc)
   look-held k n kind slot (Held x y) q = ((cc), (cc))
   look-held k n kind slot (New x) q = no-start (cc)
 
-  look-new : (k n r : ℕ) (l : Look) → afterLook k l ≡ starts.New n r → (k ≡ n) × (l ≡ New r)
-  look-new k n r Malformed q = no-start (cc)
-  look-new k n r (Held x y) q = no-start (cc)
-  look-new k n r (New x) q = ((cc), (cc))
+  look-new : (k n r f : ℕ) (l : Look) → afterLook m k l ≡ starts.New n r f → (k ≡ n) × (l ≡ New r) × (f ≡ freeSlot m k)
+  look-new k n r f Malformed q = no-start (cc)
+  look-new k n r f (Held x y) q = no-start (cc)
+  look-new k n r f (New x) q = ((cc), (cc), (cc))
 
   pub start-held : (n kind slot : ℕ) → startOf m used j e ≡ starts.Held n kind slot → (verdict m used ≡ verdicts.Accepted n) × (looked j m n e ≡ Held kind slot)
   unfolding startOf
@@ -207,13 +178,13 @@ module _ (m : List ℕ) (used : ℕ) (j : List ℕ) (e : ℕ) where
       go (verdicts.Refused k p) f g = no-start (cc)
       go (verdicts.Accepted k) f g = let r = look-held k n kind slot (looked j m k e) g in rw (← r .0) (f, r .1)
 
-  pub start-new : (n r : ℕ) → startOf m used j e ≡ starts.New n r → (verdict m used ≡ verdicts.Accepted n) × (looked j m n e ≡ New r)
+  pub start-new : (n r f : ℕ) → startOf m used j e ≡ starts.New n r f → (verdict m used ≡ verdicts.Accepted n) × (looked j m n e ≡ New r) × (f ≡ freeSlot m n)
   unfolding startOf
-  start-new n r q = go (verdict m used) refl q
+  start-new n r f q = go (verdict m used) refl q
     where
-      go : (v : Verdict) → verdict m used ≡ v → afterCheck m j e v ≡ starts.New n r → (verdict m used ≡ verdicts.Accepted n) × (looked j m n e ≡ New r)
-      go (verdicts.Refused k p) f g = no-start (cc)
-      go (verdicts.Accepted k) f g = let x = look-new k n r (looked j m k e) g in rw (← x .0) (f, x .1)
+      go : (v : Verdict) → verdict m used ≡ v → afterCheck m j e v ≡ starts.New n r f → (verdict m used ≡ verdicts.Accepted n) × (looked j m n e ≡ New r) × (f ≡ freeSlot m n)
+      go (verdicts.Refused k p) h g = no-start (cc)
+      go (verdicts.Accepted k) h g = let x = look-new k n r f (looked j m k e) g in rw (← x .0) (h, x .1, x .2)
 
 -- an accepted map has at most as many index blocks as the tables of an edit have room for
 pub blocks-most : {m : List ℕ} {used n : ℕ} → Holds m used n → n ≤ 2728
@@ -238,9 +209,9 @@ module _ (m : List ℕ) (used : ℕ) (j : List ℕ) (e : ℕ) (o : List ℕ) whe
   unfolding added
   added-held n kind slot q = rw q
 
-  pub added-new : (n k : ℕ) → startOf m used j e ≡ starts.New n k → added m used j e o ≡ freshAdd m used j e o n
+  pub added-new : (n k f : ℕ) → startOf m used j e ≡ starts.New n k f → added m used j e o ≡ freshAdd m used j e o n
   unfolding added
-  added-new n k q = rw q
+  added-new n k f q = rw q
 
 -- under a number that is held nothing is changed
 pub repeat-keeps : (m : List ℕ) (used : ℕ) (j o : List ℕ) (kind slot : ℕ) → (m ≡ repeatAdd m used j o kind slot .map) × (j ≡ repeatAdd m used j o kind slot .journal)

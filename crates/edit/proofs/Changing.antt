@@ -14,11 +14,11 @@ use Rattle.records.specs.declared.Slot.{Slot}
 use Rattle.records.specs.declared.State.{State}
 use Rattle.records.specs.declared.State.the-variants.{Erased, Live}
 use Rattle.records.specs.Slots.{stateOf}
-use Rattle.records.specs.Sizes.{indexBlockSize}
+use Rattle.records.specs.Sizes.{indexBlockSize, indexPage}
 use Rattle.records.specs.Headers.{indexHead}
 use Rattle.records.specs.Journals.{recordFor}
 use Rattle.chain.specs.Chains.{block}
-use Rattle.chain.specs.Tables.{Table, tableMeets}
+use Rattle.chain.specs.Tables.{Filled, Table, tableMeets}
 use Rattle.chain.specs.Cells.{Ordered}
 use Rattle.chain.proofs.Chains.{few}
 use Rattle.accept.specs.declared.Verdict.{Verdict}
@@ -70,10 +70,10 @@ module _ {m : List ℕ} {used n : ℕ} (h : Holds m used n) where
 accepted-one : {v : Verdict} {b n : ℕ} → v ≡ verdicts.Accepted b → v ≡ verdicts.Accepted n → b ≡ n
 accepted-one p q = cc
 
-pub known-by : {m : List ℕ} {b : ℕ} {index order : List ℕ} {v : Verdict} → v ≡ verdicts.Accepted b
-    → ((n : ℕ) → v ≡ verdicts.Accepted n → Table indexHead indexBlockSize m n index) → Ordered indexHead m b order
-    → (n : ℕ) → v ≡ verdicts.Accepted n → Known m n index order
-known-by p t o n q = let e = accepted-one p q in record { table = t n q; ordered = rw e at o }
+pub known-by : {m : List ℕ} {used b : ℕ} {index order : List ℕ} {v : Verdict} → v ≡ verdicts.Accepted b
+    → Filled indexPage used index × Table indexHead indexPage m b index → Ordered indexHead m b order
+    → (n : ℕ) → v ≡ verdicts.Accepted n → Known m used n index order
+known-by p t o n q = let e = accepted-one p q in record { filled = t .0; table = rw e at (t .1); ordered = rw e at o }
 
 -- ---- the start
 
@@ -82,29 +82,29 @@ module _ (m : List ℕ) (used : ℕ) (jn : List ℕ) (e : ℕ) where
   unfolding startOf
   start-refused q = rw q
 
-  pub start-look : {n : ℕ} {l : Look} → verdict m used ≡ verdicts.Accepted n → looked jn m n e ≡ l → startOf m used jn e ≡ afterLook n l
+  pub start-look : {n : ℕ} {l : Look} → verdict m used ≡ verdicts.Accepted n → looked jn m n e ≡ l → startOf m used jn e ≡ afterLook m n l
   unfolding startOf
   start-look q f = rw (q, f)
 
 -- and back
-held-look : (l : Look) {i n k t : ℕ} → afterLook i l ≡ starts.Held n k t → i ≡ n
-held-look looks.Malformed q = zero-one (cc)
-held-look (looks.Held kind slot) q = cc
-held-look (looks.New used) q = zero-one (cc)
+held-look : (m : List ℕ) (l : Look) {i n k t : ℕ} → afterLook m i l ≡ starts.Held n k t → i ≡ n
+held-look m looks.Malformed q = zero-one (cc)
+held-look m (looks.Held kind slot) q = cc
+held-look m (looks.New used) q = zero-one (cc)
 
-new-look : (l : Look) {i n k : ℕ} → afterLook i l ≡ starts.New n k → (i ≡ n) × (l ≡ looks.New k)
-new-look looks.Malformed q = zero-one (cc)
-new-look (looks.Held kind slot) q = zero-one (cc)
-new-look (looks.New used) q = ((cc), (cc))
+new-look : (m : List ℕ) (l : Look) {i n k f : ℕ} → afterLook m i l ≡ starts.New n k f → (i ≡ n) × (l ≡ looks.New k)
+new-look m looks.Malformed q = zero-one (cc)
+new-look m (looks.Held kind slot) q = zero-one (cc)
+new-look m (looks.New used) q = ((cc), (cc))
 
 held-check : (m jn : List ℕ) (e : ℕ) (v : Verdict) {n k t : ℕ} → afterCheck m jn e v ≡ starts.Held n k t → v ≡ verdicts.Accepted n
 held-check m jn e (verdicts.Refused i p) q = zero-one (cc)
-held-check m jn e (verdicts.Accepted i) q = ap verdicts.Accepted (held-look (looked jn m i e) q)
+held-check m jn e (verdicts.Accepted i) q = ap verdicts.Accepted (held-look m (looked jn m i e) q)
 
-new-check : (m jn : List ℕ) (e : ℕ) (v : Verdict) {n k : ℕ} → afterCheck m jn e v ≡ starts.New n k → (v ≡ verdicts.Accepted n) × (k ≡ inUse jn)
+new-check : (m jn : List ℕ) (e : ℕ) (v : Verdict) {n k f : ℕ} → afterCheck m jn e v ≡ starts.New n k f → (v ≡ verdicts.Accepted n) × (k ≡ inUse jn)
 new-check m jn e (verdicts.Refused i p) q = zero-one (cc)
 new-check m jn e (verdicts.Accepted i) {n} {k} q =
-    let f = new-look (looked jn m i e) q in
+    let f = new-look m (looked jn m i e) q in
     (ap verdicts.Accepted (f .0), looked-new jn m i e k (f .1) .2)
 
 module _ (m : List ℕ) (used : ℕ) (jn : List ℕ) (e : ℕ) where
@@ -112,7 +112,7 @@ module _ (m : List ℕ) (used : ℕ) (jn : List ℕ) (e : ℕ) where
   unfolding startOf
   start-held q = held-check m jn e (verdict m used) q
 
-  pub start-new : {n k : ℕ} → startOf m used jn e ≡ starts.New n k → (verdict m used ≡ verdicts.Accepted n) × (k ≡ inUse jn)
+  pub start-new : {n k f : ℕ} → startOf m used jn e ≡ starts.New n k f → (verdict m used ≡ verdicts.Accepted n) × (k ≡ inUse jn)
   unfolding startOf
   start-new q = new-check m jn e (verdict m used) q
 
@@ -219,7 +219,7 @@ module _ {m : List ℕ} {used n : ℕ} (h : Holds m used n) (bytes : Bytes m) (s
           good-room (touches m n) m used (versionOf m) (resym (slotIn m s) (objectSym m s))
           ∙ sym (accepted-good h s l (objectSym m s) sym-fits (eqb-false (objectSym m s) 0 e) len-not)
 
-  pub reinstate-by : {index : List ℕ} → Table indexHead indexBlockSize m n index
+  pub reinstate-by : {index : List ℕ} → Table indexHead indexPage m n index
       → symToReinstate (tableMeets indexBlockSize index) m used (slotIn m s) ≡ cond (canReinstate m used n s) (Write (objectSym m s)) None
   unfolding symToReinstate good objectSym
   reinstate-by w = rw (same-touch w, ← tests-agree)
@@ -274,11 +274,11 @@ module _ (m : List ℕ) (used : ℕ) (jn : List ℕ) (e kind s : ℕ) where
   unfolding changed
   changed-held q = rw q
 
-  pub changed-none : {n k : ℕ} → startOf m used jn e ≡ starts.New n k → newSymFor kind m used n s ≡ None → changed m used jn e kind s ≡ saying m jn (Refused 12 0)
+  pub changed-none : {n k f : ℕ} → startOf m used jn e ≡ starts.New n k f → newSymFor kind m used n s ≡ None → changed m used jn e kind s ≡ saying m jn (Refused 12 0)
   unfolding changed freshChange
   changed-none {n} q f = rw (q, sym-none kind m used n s f)
 
-  pub changed-write : {n k y : ℕ} → startOf m used jn e ≡ starts.New n k → newSymFor kind m used n s ≡ Write y
+  pub changed-write : {n k f y : ℕ} → startOf m used jn e ≡ starts.New n k f → newSymFor kind m used n s ≡ Write y
       → changed m used jn e kind s ≡ freshChange m used jn e kind s true y
   unfolding changed
   changed-write {n} q f = let w = sym-write kind m used n s f in rw (q, w .0, w .1)

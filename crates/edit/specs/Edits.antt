@@ -19,12 +19,12 @@ use lib.ListN.{length}
 use lib.Seq.{sets}
 use Rattle.numbers.specs.Bytes.{bytesOf}
 use Rattle.records.specs.declared.Slot.{Slot}
-use Rattle.records.specs.Sizes.{indexBlockSize, mapLimit}
+use Rattle.records.specs.Sizes.{indexBlockSize, indexPage, mapLimit}
 use Rattle.records.specs.Headers.{indexHead}
 use Rattle.records.specs.Slots.{slotBytes}
 use Rattle.records.specs.Journals.{recordFor}
 use Rattle.chain.specs.Chains.{place}
-use Rattle.chain.specs.Tables.{Table}
+use Rattle.chain.specs.Tables.{Filled, Table}
 use Rattle.chain.specs.Cells.{Ordered}
 use Rattle.accept.specs.declared.Verdict.{Verdict}
 use Rattle.accept.specs.declared.Verdict.the-variants as verdicts
@@ -75,14 +75,14 @@ pub record Outcome : Type 0 where
 abbrev pub saying : List ℕ → List ℕ → Answer → Outcome
 saying m j a = record { answer = a; map = m; journal = j }
 
-abbrev pub afterLook : ℕ → Look → Start
-afterLook n Malformed = starts.Refused 13 0
-afterLook n (Held kind slot) = starts.Held n kind slot
-afterLook n (New k) = starts.New n k
+abbrev pub afterLook : List ℕ → ℕ → Look → Start
+afterLook m n Malformed = starts.Refused 13 0
+afterLook m n (Held kind slot) = starts.Held n kind slot
+afterLook m n (New k) = starts.New n k (freeSlot m n)
 
 abbrev pub afterCheck : List ℕ → List ℕ → ℕ → Verdict → Start
 afterCheck m j e (verdicts.Refused k p) = starts.Refused k p
-afterCheck m j e (verdicts.Accepted n) = afterLook n (looked j m n e)
+afterCheck m j e (verdicts.Accepted n) = afterLook m n (looked j m n e)
 
 unfoldable pub startOf : List ℕ → ℕ → List ℕ → ℕ → Start
 startOf m used j e = afterCheck m j e (verdict m used)
@@ -90,14 +90,15 @@ startOf m used j e = afterCheck m j e (verdict m used)
 abbrev pub after : List ℕ → List ℕ → (ℕ → ℕ → ℕ → Outcome) → (ℕ → Outcome) → Start → Outcome
 after m j repeat fresh (starts.Refused k p) = saying m j (Refused k p)
 after m j repeat fresh (starts.Held n kind slot) = repeat n kind slot
-after m j repeat fresh (starts.New n k) = fresh n
+after m j repeat fresh (starts.New n k f) = fresh n
 
 abbrev pub begun : List ℕ → ℕ → List ℕ → ℕ → (ℕ → ℕ → ℕ → Outcome) → (ℕ → Outcome) → Outcome
 begun m used j e repeat fresh = after m j repeat fresh (startOf m used j e)
 
 -- what the tables that an edit fills tell of a map with n index blocks
-pub record Known (m : List ℕ) (n : ℕ) (index order : List ℕ) : Type 0 where
-  pub table : Table indexHead indexBlockSize m n index
+pub record Known (m : List ℕ) (used n : ℕ) (index order : List ℕ) : Type 0 where
+  pub filled : Filled indexPage used index
+  pub table : Table indexHead indexPage m n index
   pub ordered : Ordered indexHead m n order
 
 -- ---- remove and reinstate

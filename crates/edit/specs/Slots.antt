@@ -1,5 +1,4 @@
 -- What an edit asks of slot s in a map m of n index blocks.
---     slotIn m s                the slot's fields
 --     hasState k m n s          whether slot s exists and is in state k
 --     resym t y                 slot t with y as its Sym
 --     withSym m s y             the map with y as the Sym of slot s: two bytes change
@@ -8,36 +7,22 @@
 --     canReinstate m used n s   slot s is erased, its object's Sym is not 0, and the map with that slot live would be accepted
 --     allowedFor k m used n s   what kind 2, remove, and kind 3, reinstate, ask: a live slot; one that can be reinstated
 --     symFor k m s              the Sym that they write: 0; the object's
---     freeSlot m n              the first free slot in slot order, or 256 * n where none is free
 use Prim.Native.Nat.{ℕ, _+_, _*_}
 use mathlib.Core.Bool.{Bool, true, false, not, cond, _&&_}
 use mathlib.Core.List.{List}
 use lib.Dec.{eqb, ltb}
 use lib.Seq.{sets}
 use Rattle.numbers.specs.Bytes.{u16At, bytesOf}
-use Rattle.numbers.specs.Below.{first}
 use Rattle.records.specs.declared.Slot.{Slot}
 use Rattle.records.specs.declared.State.{State}
-use Rattle.records.specs.declared.State.the-variants.{Free, Erased, Live}
-use Rattle.records.specs.Slots.{slotOf, stateOf}
+use Rattle.records.specs.declared.State.the-variants.{Erased, Live}
+use Rattle.records.specs.Slots.{stateOf}
 use Rattle.accept.specs.declared.Verdict.{Verdict}
 use Rattle.accept.specs.declared.Verdict.the-variants.{Accepted, Refused}
 use Rattle.accept.specs.Rules.{slotAt}
+pub use Rattle.accept.specs.Slots.{sameState}
+unfoldable pub use Rattle.accept.specs.Slots.{slotIn, freeSlot}
 use Rattle.accept.specs.Verdicts.{verdict}
-
-unfoldable pub slotIn : List ℕ → ℕ → Slot
-slotIn m s = slotOf m (slotAt m s)
-
-abbrev pub sameState : State → State → Bool
-sameState Free Free = true
-sameState Free Erased = false
-sameState Free Live = false
-sameState Erased Free = false
-sameState Erased Erased = true
-sameState Erased Live = false
-sameState Live Free = false
-sameState Live Erased = false
-sameState Live Live = true
 
 unfoldable pub hasState : State → List ℕ → ℕ → ℕ → Bool
 hasState k m n s = ltb s (256 * n) && sameState k (stateOf (slotIn m s))
@@ -73,6 +58,3 @@ allowedFor kind m used n s = cond (eqb kind 2) (hasState Live m n s) (canReinsta
 
 abbrev pub symFor : ℕ → List ℕ → ℕ → ℕ
 symFor kind m s = cond (eqb kind 2) 0 (objectSym m s)
-
-unfoldable pub freeSlot : List ℕ → ℕ → ℕ
-freeSlot m n = first (λ s. sameState Free (stateOf (slotIn m s))) (256 * n)

@@ -1,8 +1,7 @@
 // The three edits of a map under its journal: add, remove, reinstate. Each decides first, on the map and the journal as they are, and writes after.
-use accept::Verdict;
+use accept::Examined;
 use accept::examine;
 use accept::slot_good;
-use chain::next_cell;
 use chain::order_blocks;
 use journal::Look;
 use journal::append;
@@ -34,11 +33,11 @@ ghost use Prim.Native.Nat.{ℕ, _+_, _*_, _≤_, _<_};
 ghost use lib.ListN.{length};
 ghost use lib.Seq.{sets};
 ghost use Rattle.numbers.specs.Bytes.{bytesOf};
-ghost use Rattle.records.specs.Sizes.{headerSize, indexBlockSize, slotSize, mapLimit};
+ghost use Rattle.records.specs.Sizes.{headerSize, indexBlockSize, indexPage, slotSize, mapLimit};
 ghost use Rattle.records.specs.Headers.{indexHead};
 ghost use Rattle.records.specs.Slots.{slotOf, slotBytes};
 ghost use Rattle.chain.specs.Chains.{place, walked};
-ghost use Rattle.chain.specs.Tables.{Empty, Placed, tableMeets};
+ghost use Rattle.chain.specs.Tables.{Empty, Filled, tableMeets};
 ghost use Rattle.chain.specs.Cells.{Ordered};
 ghost use Rattle.chain.specs.declared.Walk.the-variants.{Blocks};
 ghost use Rattle.accept.specs.Rules.{indexRule, slotAt};
@@ -131,22 +130,33 @@ fn refused(number: u32) -> Answer
 }
 
 // How an edit starts: refused by the check or for its journal; or its number is held, by a record of this kind and slot; or it is new, in a map of so many
-// index blocks and a journal of so many records.
+// index blocks and a journal of so many records, with its first free slot.
 pub enum Start {
-    Refused { number: u32, place: u32 },
-    Held { blocks: usize, kind: u32, slot: u32 },
-    New { blocks: usize, records: usize },
+    Refused {
+        number: u32,
+        place: u32,
+    },
+    Held {
+        blocks: usize,
+        kind: u32,
+        slot: u32,
+    },
+    New {
+        blocks: usize,
+        records: usize,
+        free: usize,
+    },
 }
 
 // The check and the look into the journal, with which every edit starts. The lent tables have the index blocks afterwards, where the map is accepted.
 fn begin(m: &[u8], used: usize, j: &[u8], e: u32, index: &mut [u32], order: &mut [u32]) -> Start
-    requires { ⌜ (mapLimit ≤ length (now index) * indexBlockSize) × Empty (now index) × (2728 ≤ length (now order)) ⌝ }
-    ensures { λ r. ⌜ (r ≡ startOf (now (m .entry)) used (now (j .entry)) e) × ((n : ℕ) → verdict (now (m .entry)) used ≡ Accepted n → Known (now (m .entry)) n (now (index .exit)) (now (order .exit))) ⌝ }
+    requires { ⌜ (mapLimit + indexPage ≤ length (now index) * indexPage) × Empty (now index) × (2728 ≤ length (now order)) ⌝ }
+    ensures { λ r. ⌜ (r ≡ startOf (now (m .entry)) used (now (j .entry)) e) × ((n : ℕ) → verdict (now (m .entry)) used ≡ Accepted n → Known (now (m .entry)) used n (now (index .exit)) (now (order .exit))) ⌝ }
 {
     let v = examine(m, used, index);
     match v {
-        Verdict::Refused { number, place } => Start::Refused { number, place },
-        Verdict::Accepted { blocks } => {
+        Examined::Refused { number, place } => Start::Refused { number, place },
+        Examined::Accepted { blocks, free } => {
             order_blocks(m, Header::INDEX, blocks, order);
             let look = look_up(j, m, order, blocks, e);
             match look {
@@ -155,7 +165,11 @@ fn begin(m: &[u8], used: usize, j: &[u8], e: u32, index: &mut [u32], order: &mut
                     place: 0,
                 },
                 Look::Held { kind, slot } => Start::Held { blocks, kind, slot },
-                Look::New { used: records } => Start::New { blocks, records },
+                Look::New { used: records } => Start::New {
+                    blocks,
+                    records,
+                    free,
+                },
             }
         }
     }
@@ -171,7 +185,7 @@ pub enum NewSym {
 
 // The Sym that reinstates an erased slot.
 fn sym_to_reinstate(m: &[u8], used: usize, index: &[u32], t: Slot) -> NewSym
-    requires { ⌜ (headerSize ≤ used) × (used ≤ mapLimit) × (used ≤ length (now m)) × (used ≤ length (now index) * indexBlockSize) × Placed indexBlockSize (now index) ⌝ }
+    requires { ⌜ (headerSize ≤ used) × (used ≤ mapLimit) × (used ≤ length (now m)) × (used + indexPage ≤ length (now index) * indexPage) × Filled indexPage used (now index) ⌝ }
     ensures { λ r. ⌜ r ≡ symToReinstate (tableMeets indexBlockSize (now (index .entry))) (now (m .entry)) used t ⌝ }
 {
     let at = t.position as usize;
@@ -209,7 +223,7 @@ fn sym_for(
     kind: u32,
     at: u32,
 ) -> NewSym
-    requires { ⌜ (verdict (now m) used ≡ Accepted n) × Known (now m) n (now index) (now order) × (mapLimit ≤ length (now index) * indexBlockSize) × (n ≤ length (now order)) ⌝ }
+    requires { ⌜ (verdict (now m) used ≡ Accepted n) × Known (now m) used n (now index) (now order) × (mapLimit + indexPage ≤ length (now index) * indexPage) × (n ≤ length (now order)) ⌝ }
     ensures { λ r. ⌜ r ≡ newSymFor kind (now (m .entry)) used n at ⌝ }
 {
     let s = at as usize;
@@ -297,7 +311,7 @@ fn change(map: &mut [u8], used: usize, journal: &mut [u8], edit: u32, kind: u32,
     ensures maps { λ r. ⌜ now (map .exit) ≡ changed (now (map .entry)) used (now (journal .entry)) edit kind at .map ⌝ }
     ensures journals { λ r. ⌜ now (journal .exit) ≡ changed (now (map .entry)) used (now (journal .entry)) edit kind at .journal ⌝ }
 {
-    let mut index = [0u32; IndexBlock::BUCKETS];
+    let mut index = [0u32; IndexBlock::TABLE];
     let mut order = [0u32; IndexBlock::MOST];
     let start = begin(map, used, journal, edit, &mut index, &mut order);
     match start {
@@ -307,7 +321,11 @@ fn change(map: &mut [u8], used: usize, journal: &mut [u8], edit: u32, kind: u32,
             kind: held,
             slot,
         } => repeat_change(used, kind, at, held, slot),
-        Start::New { blocks, records } => {
+        Start::New {
+            blocks,
+            records,
+            free: _,
+        } => {
             let sym = sym_for(map, used, &index, &order, blocks, kind, at);
             match sym {
                 NewSym::None => refused(12),
@@ -393,23 +411,6 @@ fn slot_for(version: u16, o: &[u8], at: u32) -> Slot
         len: len_of(version, pairs) as u16,
         sym: h.sym,
     }
-}
-
-// The first free slot, and 256 * n where none is free.
-fn first_free(m: &[u8], used: usize, n: usize) -> usize
-    requires { ⌜ (headerSize ≤ used) × (used ≤ mapLimit) × (used ≤ length (now m)) × (walked (indexRule (now m)) (now m) used ≡ Blocks n) ⌝ }
-    ensures { λ r. ⌜ r ≡ freeSlot (now (m .entry)) n ⌝ }
-{
-    let mut at = u32_at(m, Header::INDEX) as usize + 4;
-    let mut s = 0;
-    while s < 256 * n {
-        if u16_at(m, at + Slot::LEN) == 0 {
-            return s;
-        }
-        at = next_cell(m, at, s, Slot::SIZE);
-        s += 1;
-    }
-    s
 }
 
 // Whether the object of slot s is the offered one. The part of the map where it lies is handed on.
@@ -520,7 +521,7 @@ fn new_length(used: usize, n: usize, s: usize, o: &[u8]) -> usize
     used + o.len() + IndexBlock::SIZE
 }
 
-// An add under a new number.
+// An add under a new number, in a map whose first free slot is s.
 fn add_new(
     map: &mut [u8],
     used: usize,
@@ -530,8 +531,9 @@ fn add_new(
     order: &[u32],
     n: usize,
     records: usize,
+    s: usize,
 ) -> Answer
-    requires { ⌜ (verdict (now map) used ≡ Accepted n) × Ordered indexHead (now map) n (now order) × (n ≤ length (now order)) × (records ≡ inUse (now journal)) ⌝ }
+    requires { ⌜ (verdict (now map) used ≡ Accepted n) × Ordered indexHead (now map) n (now order) × (n ≤ length (now order)) × (records ≡ inUse (now journal)) × (s ≡ freeSlot (now map) n) ⌝ }
     ensures answers { λ r. ⌜ r ≡ freshAdd (now (map .entry)) used (now (journal .entry)) edit (now (o .entry)) n .answer ⌝ }
     ensures maps { λ r. ⌜ now (map .exit) ≡ freshAdd (now (map .entry)) used (now (journal .entry)) edit (now (o .entry)) n .map ⌝ }
     ensures journals { λ r. ⌜ now (journal .exit) ≡ freshAdd (now (map .entry)) used (now (journal .entry)) edit (now (o .entry)) n .journal ⌝ }
@@ -539,7 +541,6 @@ fn add_new(
     if !offered_good(u16_at(map, Header::VERSION), o) {
         return refused(10);
     }
-    let s = first_free(map, used, n);
     let length = new_length(used, n, s, o);
     if Header::LIMIT < length {
         return refused(11);
@@ -570,21 +571,16 @@ pub fn add(map: &mut [u8], used: usize, journal: &mut [u8], edit: u32, o: &[u8])
     ensures maps { λ r. ⌜ now (map .exit) ≡ added (now (map .entry)) used (now (journal .entry)) edit (now (o .entry)) .map ⌝ }
     ensures journals { λ r. ⌜ now (journal .exit) ≡ added (now (map .entry)) used (now (journal .entry)) edit (now (o .entry)) .journal ⌝ }
 {
-    let mut index = [0u32; IndexBlock::BUCKETS];
+    let mut index = [0u32; IndexBlock::TABLE];
     let mut order = [0u32; IndexBlock::MOST];
     let start = begin(map, used, journal, edit, &mut index, &mut order);
     match start {
         Start::Refused { number, place } => Answer::Refused { number, place },
         Start::Held { blocks, kind, slot } => repeat_add(map, used, &order, blocks, o, kind, slot),
-        Start::New { blocks, records } => add_new(
-            map,
-            used,
-            journal,
-            edit,
-            o,
-            &order,
+        Start::New {
             blocks,
             records,
-        ),
+            free,
+        } => add_new(map, used, journal, edit, o, &order, blocks, records, free),
     }
 }

@@ -14,7 +14,7 @@ use Rattle.edit.proofs.add.Statement.{statement}
 use Rattle.edit.proofs.add.Tie as tie
 
 begin-requires : tie.Need-begin-requires
-begin-requires c κs = (omega arith, zeros 2729, omega arith)
+begin-requires c κs = (omega arith, zeros 4097, omega arith)
 
 refused : (c : tie.After-start) → let a = c .before .before .before .before .before .before .before .before .before .before .before .before .args in startOf (now (a .map)) (a .used) (now (a .journal)) (a .edit) ≡ starts.Refused (c .start .given .0 .0) (c .start .given .0 .1 .0)
 refused c = sym (c .before .before .before .before .begin .ensures .0) ∙ c .start .given .1
@@ -22,7 +22,7 @@ refused c = sym (c .before .before .before .before .begin .ensures .0) ∙ c .st
 held : (c : tie.After-start2) → let a = c .before .before .before .before .before .before .before .before .before .before .before .before .args in startOf (now (a .map)) (a .used) (now (a .journal)) (a .edit) ≡ starts.Held (c .start2 .given .0 .0) (c .start2 .given .0 .1 .0) (c .start2 .given .0 .1 .1 .0)
 held c = sym (c .before .before .before .before .begin .ensures .0) ∙ c .start2 .given .1
 
-new : (c : tie.After-start3) → let a = c .before .before .before .before .before .before .before .before .before .before .before .before .args in startOf (now (a .map)) (a .used) (now (a .journal)) (a .edit) ≡ starts.New (c .start3 .given .0 .0) (c .start3 .given .0 .1 .0)
+new : (c : tie.After-start3) → let a = c .before .before .before .before .before .before .before .before .before .before .before .before .args in startOf (now (a .map)) (a .used) (now (a .journal)) (a .edit) ≡ starts.New (c .start3 .given .0 .0) (c .start3 .given .0 .1 .0) (c .start3 .given .0 .1 .1 .0)
 new c = sym (c .before .before .before .before .begin .ensures .0) ∙ c .start3 .given .1
 
 repeat-add-requires : tie.Need-repeat-add-requires
@@ -41,9 +41,9 @@ add-new-requires c κs =
     let b = g .before .before .before .before in
     let a = b .before .before .before .before .before .before .before .before .args in
     let f = g .start3 .given .0 in
-    let k = start-new (now (a .map)) (a .used) (now (a .journal)) (a .edit) (f .0) (f .1 .0) (new g) in
+    let k = start-new (now (a .map)) (a .used) (now (a .journal)) (a .edit) (f .0) (f .1 .0) (f .1 .1 .0) (new g) in
     let h = accepted-tells (now (a .map)) (a .used) (f .0) (k .0) in
-    (k .0, b .begin .ensures .1 (f .0) (k .0) .ordered, omega (arith, blocks-most h, b .begin .kept .1 .1 .1 .1 .1 .0), looked-new (now (a .journal)) (now (a .map)) (f .0) (a .edit) (f .1 .0) (k .1) .2)
+    (k .0, b .begin .ensures .1 (f .0) (k .0) .ordered, omega (arith, blocks-most h, b .begin .kept .1 .1 .1 .1 .1 .0), looked-new (now (a .journal)) (now (a .map)) (f .0) (a .edit) (f .1 .0) (k .1) .2, k .2)
 
 returns : tie.Need-returns
 returns c =
@@ -64,7 +64,7 @@ returns-3 c =
     let w = c .before .before .before .before in
     let g = w .before .before .before .before .before in
     let a = g .before .before .before .before .before .before .before .before .before .before .before .before .args in
-    rw (added-new (now (a .map)) (a .used) (now (a .journal)) (a .edit) (now (a .o)) (g .start3 .given .0 .0) (g .start3 .given .0 .1 .0) (new g)) (w .add-new .ensures)
+    rw (added-new (now (a .map)) (a .used) (now (a .journal)) (a .edit) (now (a .o)) (g .start3 .given .0 .0) (g .start3 .given .0 .1 .0) (g .start3 .given .0 .1 .1 .0) (new g)) (w .add-new .ensures)
 
 pub add-spec : {M : Type 1} → statement M
 add-spec =

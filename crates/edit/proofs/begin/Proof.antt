@@ -1,22 +1,30 @@
 -- `edit::begin` meets its contract: the check's refusal; or, of an accepted map, whose blocks are few enough for the lent order, what the look into the journal
 -- answers. Assumes nothing.
 use Prim.Native.Nat.{ℕ}
-use mathlib.Core.Path.{_≡_, sym, _∙_}
+use mathlib.Core.Path.{_≡_, sym, ap, _∙_}
 use native.Mathlib.Omega.{arith}
 use denote.Ref.{now}
 use Rattle.accept.specs.declared.Verdict.the-variants.{Accepted}
 use Rattle.accept.specs.Verdicts.{verdict}
+use Rattle.accept.specs.Slots.{freeSlot}
 use Rattle.accept.proofs.Verdicts.{refused}
+use Rattle.accept.proofs.Slots.{plain, verdict-of, accepted-free}
 use Rattle.accept.proofs.Accepting.{Holds, accepted-tells}
+use Rattle.edit.specs.declared.Start.the-variants as starts
 use Rattle.edit.specs.Edits.{Known}
 use Rattle.edit.proofs.Changing.{order-ready, reach, known-by, start-refused, start-look}
 use borrow.Author.Needs.{needs}
 use Rattle.edit.proofs.begin.Statement.{statement}
 use Rattle.edit.proofs.begin.Tie as tie
 
--- the map is accepted, with so many blocks
+-- the map is accepted, with so many blocks and this first free slot
+free : (c : tie.After-v2) → let a = c .before .before .before .before .before .before .before .before .before .before .args in (verdict (now (a .m)) (a .used) ≡ Accepted (c .v2 .given .0 .0)) × (c .v2 .given .0 .1 .0 ≡ freeSlot (now (a .m)) (c .v2 .given .0 .0))
+free c =
+    let a = c .before .before .before .before .before .before .before .before .before .before .args in
+    accepted-free (now (a .m)) (verdict (now (a .m)) (a .used)) (c .before .before .before .before .examine .ensures .0) (c .v2 .given .1)
+
 accepted : (c : tie.After-v2) → let a = c .before .before .before .before .before .before .before .before .before .before .args in verdict (now (a .m)) (a .used) ≡ Accepted (c .v2 .given .0 .0)
-accepted c = sym (c .before .before .before .before .examine .ensures .0) ∙ c .v2 .given .1
+accepted c = free c .0
 
 holds : (c : tie.After-v2) → let a = c .before .before .before .before .before .before .before .before .before .before .args in Holds (now (a .m)) (a .used) (c .v2 .given .0 .0)
 holds c =
@@ -37,19 +45,19 @@ look-up-requires c κs =
     reach (holds v) (o .order-blocks .last .1 .1 .1 .0) (omega (arith, s .pre .2, o .order-blocks .kept .1 .1 .1 .0)) (o .order-blocks .ensures)
 
 -- the tables have the blocks
-known : (c : tie.After-look-up) → let o = c .before .before .before .before in let x = o .before .before .before .before .before .before .before in let a = x .before .before .before .before .before .before .args in (n : ℕ) → verdict (now (a .m)) (a .used) ≡ Accepted n → Known (now (a .m)) n (x .examine .last .1 .1 .0) (o .order-blocks .last .1 .1 .1 .0)
+known : (c : tie.After-look-up) → let o = c .before .before .before .before in let x = o .before .before .before .before .before .before .before in let a = x .before .before .before .before .before .before .args in (n : ℕ) → verdict (now (a .m)) (a .used) ≡ Accepted n → Known (now (a .m)) (a .used) n (x .examine .last .1 .1 .0) (o .order-blocks .last .1 .1 .1 .0)
 known c =
     let o = c .before .before .before .before in
     let v = o .before .before .before in
     let x = v .before .before .before .before in
-    known-by (accepted v) (λ n q. x .examine .ensures .1 n (x .examine .ensures .0 ∙ q)) (o .order-blocks .ensures)
+    known-by (accepted v) (x .examine .ensures .1 (v .v2 .given .0 .0) (v .v2 .given .0 .1 .0) (v .v2 .given .1)) (o .order-blocks .ensures)
 
 returns : tie.Need-returns
 returns c =
     let v = c .before in
     let x = v .before .before .before .before in
     let a = x .before .before .before .before .before .before .args in
-    let q = sym (x .examine .ensures .0) ∙ v .v .given .1 in
+    let q = sym (verdict-of (now (a .m)) (verdict (now (a .m)) (a .used)) (x .examine .ensures .0)) ∙ ap plain (v .v .given .1) in
     (sym (start-refused (now (a .m)) (a .used) (now (a .j)) (a .e) q), λ n e. absurd (refused (sym q ∙ e)))
 
 returns-2 : tie.Need-returns-2
@@ -71,7 +79,7 @@ returns-4 c =
     let k = c .before .before .before in
     let v = k .before .before .before .before .before .before .before in
     let a = v .before .before .before .before .before .before .before .before .before .before .args in
-    (sym (start-look (now (a .m)) (a .used) (now (a .j)) (a .e) (accepted v) (sym (k .look-up .ensures) ∙ c .before .look2 .given .1)), known k)
+    (ap (starts.New (v .v2 .given .0 .0) (c .before .look2 .given .0 .0)) (free v .1) ∙ sym (start-look (now (a .m)) (a .used) (now (a .j)) (a .e) (accepted v) (sym (k .look-up .ensures) ∙ c .before .look2 .given .1)), known k)
 
 pub begin-spec : {M : Type 1} → statement M
 begin-spec =

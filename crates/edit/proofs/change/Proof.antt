@@ -19,7 +19,7 @@ use Rattle.edit.proofs.change.Statement.{statement}
 use Rattle.edit.proofs.change.Tie as tie
 
 begin-requires : tie.Need-begin-requires
-begin-requires c κs = (omega arith, zeros 2729, omega arith)
+begin-requires c κs = (omega arith, zeros 4097, omega arith)
 
 -- ---- a number that is held
 
@@ -34,7 +34,7 @@ repeat-change-requires c κs =
 
 -- ---- a new number
 
-new : (c : tie.After-start3) → let a = c .before .before .before .before .before .before .before .before .before .before .before .args in startOf (now (a .map)) (a .used) (now (a .journal)) (a .edit) ≡ starts.New (c .start3 .given .0 .0) (c .start3 .given .0 .1 .0)
+new : (c : tie.After-start3) → let a = c .before .before .before .before .before .before .before .before .before .before .before .args in startOf (now (a .map)) (a .used) (now (a .journal)) (a .edit) ≡ starts.New (c .start3 .given .0 .0) (c .start3 .given .0 .1 .0) (c .start3 .given .0 .1 .1 .0)
 new c = sym (c .before .before .before .before .begin .ensures .0) ∙ c .start3 .given .1
 
 accepted : (c : tie.After-start3) → let a = c .before .before .before .before .before .before .before .before .before .before .before .args in verdict (now (a .map)) (a .used) ≡ Accepted (c .start3 .given .0 .0)

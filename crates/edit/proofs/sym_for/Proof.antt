@@ -54,7 +54,7 @@ sym-to-reinstate-requires : tie.Need-sym-to-reinstate-requires
 sym-to-reinstate-requires c κs =
     let s = c .before .before .before .before .before .before .before .before .before .before in
     let h = holds s in
-    (h .low, h .limit, h .room, omega (arith, h .limit, s .pre .2), s .pre .1 .table .placed)
+    (h .low, h .limit, h .room, omega (arith, h .limit, s .pre .2), s .pre .1 .filled)
 
 returns-2 : tie.Need-returns-2
 returns-2 c =
