@@ -15,7 +15,7 @@ use mir.Val.{toZ, sel, SFits}
 use mir.ValLaws.{sfits-le}
 use mir.Facts.{sfits-toZ}
 use borrow.Author.Tests.{lt-ltb, le-ltb, le-leb, lt-leb, leb-true, leb-false, ltb-true, ltb-false}
-use Rattle.numbers.specs.Coordinates.{signed, signed16, signed32, floorDiv, valueOf, unmarked, key}
+use Rattle.numbers.specs.Coordinates.{signed, signed16, signed32, floorDiv, valueOf, unmarked, key, signFlipped}
 
 -- a number is below a bound, or it is not
 pub lt-or-ge : (n m : ℕ) → (n < m) ⊎ (m ≤ n)
@@ -67,10 +67,13 @@ floor-shr : (z : ℤ) (m : ℕ) → shrZ z m ≡ floorDiv z m
 floor-shr (pos a) m = refl
 floor-shr (negsuc a) m = refl
 
--- the value of 32 bits fits 32 bits
+-- the signed number of 32 bits fits them, and so does the value
+signed-fits : (n : ℕ) → n < 2 ^ 32 → SFits w32 (signed32 n)
+signed-fits n h = rw (signed-toZ n) (sfits-toZ (record { fits = h }))
+
 pub value-fits : (n : ℕ) → n < 2 ^ 32 → SFits w32 (valueOf n)
 unfolding valueOf
-value-fits n h = rw (signed-toZ n, ← floor-shr (toZ w32 n) 256) (sfits-le (mag-shr (toZ w32 n) 256) (sfits-toZ (record { fits = h })))
+value-fits n h = rw (← floor-shr (signed32 n) 256) (sfits-le (mag-shr (signed32 n) 256) (signed-fits n h))
 
 -- ---- keys
 
@@ -104,24 +107,31 @@ key-sum (negsuc n) f =
     let e : 2147483648 - suc n ≡ 2147483647 - n = omega arith in
     rw (le-ltb 2147483648 (suc n) (omega (arith, f .sfits)), e)
 
--- the key of a raw coordinate's value, from its bits
-key-low : (n : ℕ) → n < 2147483648 → key (valueOf n) ≡ 2147483648 + n / 256
-unfolding valueOf
-key-low n h = rw (signed-low 2147483648 n h)
+-- the key of a signed number is its bits with the sign bit flipped
+flipped-key : (n : ℕ) → n < 2 ^ 32 → signFlipped n ≡ key (signed32 n)
+flipped-key n h =
+    ⊎-elim
+    (λ l. rw (signed-low 2147483648 n l) (omega arith))
+    (λ l. rw (signed-high 2147483648 n l) (omega arith))
+    (lt-or-ge n 2147483648)
 
-key-high : (n : ℕ) → 2147483648 ≤ n → n < 2 ^ 32 → key (valueOf n) ≡ 2130706432 + n / 256
-unfolding valueOf
-key-high n h k = rw (signed-high 2147483648 n h) (omega arith)
+pub leZ-flipped : (a b : ℕ) → a < 2 ^ 32 → b < 2 ^ 32 → leZ (signed32 a) (signed32 b) ≡ leb (signFlipped a) (signFlipped b)
+leZ-flipped a b f g = rw (flipped-key a f, flipped-key b g) (leZ-key (signed32 a) (signed32 b) (signed-fits a f) (signed-fits b g))
 
-pub key-flat : (n : ℕ) → n < 2 ^ 32 → 2139095040 + (n + 2147483648) % 4294967296 / 256 ≡ key (valueOf n)
-key-flat n h =
-    ⊎-elim (λ l. rw (key-low n l) (omega arith)) (λ l. rw (key-high n l h) (omega arith)) (lt-or-ge n 2147483648)
+-- rounding down drops the low bits of the key
+key-floor : (z : ℤ) → SFits w32 z → 2139095040 + key z / 256 ≡ key (floorDiv z 256)
+key-floor (pos a) f = omega arith
+key-floor (negsuc a) f = omega (arith, f .sfits)
+
+pub key-value : (n : ℕ) → n < 2 ^ 32 → 2139095040 + signFlipped n / 256 ≡ key (valueOf n)
+unfolding valueOf
+key-value n h = rw (flipped-key n h) (key-floor (signed32 n) (signed-fits n h))
 
 -- ---- the marks do not count
 
-pub unmarked-value : (n : ℕ) → n < 2 ^ 32 → valueOf (unmarked n) ≡ valueOf n
+pub unmarked-value : (n : ℕ) → valueOf (unmarked n) ≡ valueOf n
 unfolding valueOf unmarked
-unmarked-value n h =
+unmarked-value n =
     ⊎-elim
     (λ l.
     let e : n / 256 * 256 / 256 ≡ n / 256 = omega arith in
@@ -130,6 +140,28 @@ unmarked-value n h =
     let e : (4294967295 - n / 256 * 256) / 256 ≡ (4294967295 - n) / 256 = omega arith in
     rw (signed-high 2147483648 (n / 256 * 256) (omega arith), signed-high 2147483648 n l, e))
     (lt-or-ge n 2147483648)
+
+pub unmarked-twice : (n : ℕ) → unmarked (unmarked n) ≡ unmarked n
+unfolding unmarked
+unmarked-twice n = omega arith
+
+-- x and y are ordered as a and b are by value, where they are as the flipped bits of a and b without the lowest 8
+module _ (a b : ℕ) (f : a < 2 ^ 32) (g : b < 2 ^ 32) where
+  by-value : (x y : ℕ) → (x ≤ y → signFlipped a / 256 ≤ signFlipped b / 256) → (y < x → signFlipped b / 256 < signFlipped a / 256)
+      → leb x y ≡ leZ (valueOf a) (valueOf b)
+  by-value x y h k =
+      rw (leZ-value a b f g, ← key-value a f, ← key-value b g)
+      (leb-same x y (2139095040 + signFlipped a / 256) (2139095040 + signFlipped b / 256) (λ l. omega (arith, h l)) (λ l. omega (arith, k l)))
+
+  -- the marks of the second may stay
+  pub unmarked-order : leb (unmarked (signFlipped a)) (signFlipped b) ≡ leZ (valueOf a) (valueOf b)
+  unfolding unmarked
+  unmarked-order = by-value (signFlipped a / 256 * 256) (signFlipped b) (λ l. omega arith) (λ l. omega arith)
+
+  -- without marks the order by value is the signed order
+  pub bare-order : unmarked a ≡ a → unmarked b ≡ b → leZ (signed32 a) (signed32 b) ≡ leZ (valueOf a) (valueOf b)
+  unfolding unmarked
+  bare-order p q = leZ-flipped a b f g ∙ by-value (signFlipped a) (signFlipped b) (λ l. omega arith) (λ l. omega arith)
 
 -- ---- document 01's table: the raw numbers as bits, and their values
 pub table : map valueOf (25602 ∷ 255 ∷ 4294967295 ∷ 4294967040 ∷ 4294967039 ∷ 2147483647 ∷ 2147483648 ∷ [])

@@ -2,7 +2,7 @@
 -- Assumes nothing.
 use mathlib.Core.Path.{_≡_, refl, ap, _∙_}
 use mathlib.Core.List.{List, [], _∷_}
-use mathlib.Core.Bool.{Bool, true, false, _&&_}
+use mathlib.Core.Bool.{false, _&&_, and-false}
 use Prim.Native.Nat.{ℕ, zero, suc, _+_, _<_}
 use native.Mathlib.Numerals.{add-one}
 use native.Mathlib.Omega.{arith}
@@ -11,12 +11,7 @@ use lib.ListN.{length, getD, take, drop, set, replicate, length-replicate, repli
 use lib.Seq.{drop-cons, take-suc, length-take-le, sets}
 use native.Mathlib.Nat.{zero-add}
 use Rattle.numbers.proofs.Bytes.{sets-snoc}
-use borrow.Author.Tests.{eq-eqb, ne-eqb}
 use Rattle.numbers.specs.Bytes.{sameBytes}
-
-and-false : (b : Bool) → b && false ≡ false
-and-false true = refl
-and-false false = refl
 
 -- lists of two lengths are not the same
 pub same-not : (a b : List ℕ) → (length a ≡ length b → ⊥) → sameBytes a b ≡ false

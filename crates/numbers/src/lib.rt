@@ -5,7 +5,7 @@ ghost use lib.ListN.{length, replicate};
 ghost use lib.Seq.{sets};
 ghost use lib.Signed.{leZ};
 ghost use Rattle.numbers.specs.Bytes.{u16At, u32At, bytesOf, sameBytes};
-ghost use Rattle.numbers.specs.Coordinates.{signed16, signed32, valueOf, unmarked, key};
+ghost use Rattle.numbers.specs.Coordinates.{signed16, signed32, valueOf, unmarked, key, signFlipped};
 ghost use Rattle.numbers.specs.Ranges.{share};
 
 // ---- little-endian numbers
@@ -70,11 +70,25 @@ pub fn put_u32_at(s: &mut [u8], at: usize, v: u32)
 
 // ---- coordinates
 
+// A number of 32 bits with its sign bit flipped: the unsigned order of these is the signed order of the numbers.
+fn flipped(x: u32) -> u32
+    ensures { λ r. ⌜ r ≡ signFlipped x ⌝ }
+{
+    ((x as u64 + 2147483648) % 4294967296) as u32
+}
+
+// Whether one number of 32 bits is at most another, both read as signed.
+pub fn signed_at_most(a: u32, b: u32) -> bool
+    ensures { λ r. ⌜ r ≡ leZ (signed32 a) (signed32 b) ⌝ }
+{
+    flipped(a) <= flipped(b)
+}
+
 // The key of a raw coordinate's value, with no branch: the sign bit is flipped and the marks are dropped.
 pub fn key_of_raw(raw: u32) -> u32
     ensures { λ r. ⌜ r ≡ key (valueOf raw) ⌝ }
 {
-    2139095040 + (((raw as u64 + 2147483648) % 4294967296 / 256) as u32)
+    2139095040 + flipped(raw) / 256
 }
 
 // The key of a value.
@@ -84,11 +98,11 @@ pub fn key_of_value(z: i32) -> u32
     (z as i64 + 2147483648) as u32
 }
 
-// Whether one raw coordinate is at most another, by value.
+// Whether one raw coordinate is at most another, by value. The marks of b never decide, so they are left in.
 pub fn at_most(a: u32, b: u32) -> bool
     ensures { λ r. ⌜ r ≡ leZ (valueOf a) (valueOf b) ⌝ }
 {
-    key_of_raw(a) <= key_of_raw(b)
+    without_marks(flipped(a)) <= flipped(b)
 }
 
 // A raw coordinate without its marks.
@@ -158,19 +172,18 @@ pub fn clear(d: &mut [u8], n: usize)
     }
 }
 
-// Whether two slices hold the same bytes.
+// Whether two slices hold the same bytes. The loop has no early end, so that many bytes are compared at a time.
 pub fn same(a: &[u8], b: &[u8]) -> bool
     ensures { λ r. ⌜ r ≡ sameBytes (now (a .entry)) (now (b .entry)) ⌝ }
 {
     if a.len() != b.len() {
         return false;
     }
+    let mut alike = true;
     let mut i = 0;
     while i < a.len() {
-        if a[i] != b[i] {
-            return false;
-        }
+        alike = alike & (a[i] == b[i]);
         i += 1;
     }
-    true
+    alike
 }

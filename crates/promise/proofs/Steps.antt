@@ -43,7 +43,7 @@ still : (m j : List ℕ) (a : Answer) → saysDone (edited a) ≡ false → Stil
 still m j a e = record { map = refl; journal = refl; idle = e }
 
 -- how an edit starts, in a map that is accepted
-start-of : (m : List ℕ) (used : ℕ) (j : List ℕ) (e n : ℕ) → verdict m used ≡ verdicts.Accepted n → startOf m used j e ≡ afterLook n (looked j m n e)
+start-of : (m : List ℕ) (used : ℕ) (j : List ℕ) (e n : ℕ) → verdict m used ≡ verdicts.Accepted n → startOf m used j e ≡ afterLook m n (looked j m n e)
 unfolding startOf
 start-of m used j e n v = rw v
 
@@ -85,7 +85,7 @@ module _ (m : List ℕ) (used : ℕ) (j : List ℕ) (e kind s n : ℕ) (v : verd
   change-cases = rw (start-of m used j e n v) (go (looked j m n e) refl)
     where
       abbrev-after : Look → Outcome
-      abbrev-after l = after m j (λ n k t. repeatChange m used j kind s k t) (λ n. freshChange m used j e kind s (allowedFor kind m used n s) (symFor kind m s)) (afterLook n l)
+      abbrev-after l = after m j (λ n k t. repeatChange m used j kind s k t) (λ n. freshChange m used j e kind s (allowedFor kind m used n s) (symFor kind m s)) (afterLook m n l)
 
       go : (l : Look) → looked j m n e ≡ l → Still m j (abbrev-after l) ⊎ DoneChange m used j e kind s n (abbrev-after l)
       go Malformed q = inl (still m j (Refused 13 0) refl)
@@ -152,7 +152,7 @@ module _ (m : List ℕ) (used : ℕ) (j : List ℕ) (e : ℕ) (o : List ℕ) (n 
   add-cases = rw (start-of m used j e n v) (go (looked j m n e) refl)
     where
       then : Look → Outcome
-      then l = after m j (λ n k t. repeatAdd m used j o k t) (λ n. freshAdd m used j e o n) (afterLook n l)
+      then l = after m j (λ n k t. repeatAdd m used j o k t) (λ n. freshAdd m used j e o n) (afterLook m n l)
 
       go : (l : Look) → looked j m n e ≡ l → Still m j (then l) ⊎ DoneAdd m used j e o n (then l)
       go Malformed q = inl (still m j (Refused 13 0) refl)

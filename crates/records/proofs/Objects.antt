@@ -1,6 +1,6 @@
 -- The laws of objects: an object's header and pairs depend on its bytes alone; the rectangle over one pair more; and that it is the least. Assumes nothing.
 use Prim.Native.Nat.{ℕ, zero, suc, _+_, _-_, _*_, _^_, _≤_, _<_}
-use mathlib.Core.Bool.{Bool, true, false}
+use mathlib.Core.Bool.{Bool, true, false, cond}
 use mathlib.Core.Path.{_≡_, refl, sym, ap, _∙_}
 use mathlib.Core.Logic.{_⊎_, inl, inr, ⊎-elim}
 use mathlib.Core.List.{List}
@@ -12,16 +12,46 @@ use borrow.Author.Tests.{le-leb, lt-leb, leb-true, leb-false}
 use Rattle.numbers.specs.Bytes.{Bytes}
 use Rattle.numbers.specs.Coordinates.{valueOf, unmarked, key}
 use Rattle.numbers.proofs.Bytes.{leAt-lt}
-use Rattle.numbers.proofs.Coordinates.{leZ-value, unmarked-value}
-use Rattle.records.specs.Objects.{xOf, yOf, lesserOf, greaterOf, joined, coverTo, rectangleOf, withoutMarks}
+use Rattle.numbers.proofs.Coordinates.{leZ-value, unmarked-value, unmarked-twice}
+use Rattle.records.specs.declared.Rectangle.{Rectangle}
+use Rattle.records.specs.Objects.{xOf, yOf, lesserOf, greaterOf, pointAt, joined, coverTo, rectangleOf, withoutMarks}
 
-pub cover-more : (o : List ℕ) (i : ℕ) → 1 ≤ i → coverTo o (i + 1 - 1) ≡ joined (coverTo o (i - 1)) (xOf o i) (yOf o i)
-unfolding coverTo
-cover-more o zero h = absurd (not-suc-le-zero h)
-cover-more o (suc i) h =
+-- ---- the rectangle is joined of coordinates without marks
+
+cond-bare : (t : Bool) (a b : ℕ) → cond t (unmarked a) (unmarked b) ≡ unmarked (cond t a b)
+cond-bare true a b = refl
+cond-bare false a b = refl
+
+lesser-bare : (a b : ℕ) → lesserOf (unmarked a) (unmarked b) ≡ unmarked (lesserOf a b)
+unfolding lesserOf
+lesser-bare a b = rw (unmarked-value a, unmarked-value b) (cond-bare (leZ (valueOf a) (valueOf b)) a b)
+
+greater-bare : (a b : ℕ) → greaterOf (unmarked a) (unmarked b) ≡ unmarked (greaterOf a b)
+unfolding greaterOf
+greater-bare a b = rw (unmarked-value a, unmarked-value b) (cond-bare (leZ (valueOf b) (valueOf a)) a b)
+
+pub bare-sides : (r : Rectangle) → withoutMarks r ≡ r
+    → (unmarked (r .left) ≡ r .left) × (unmarked (r .bottom) ≡ r .bottom) × (unmarked (r .right) ≡ r .right) × (unmarked (r .top) ≡ r .top)
+unfolding withoutMarks
+bare-sides r e =
+    (ap (λ (q : Rectangle). q .left) e, ap (λ (q : Rectangle). q .bottom) e, ap (λ (q : Rectangle). q .right) e, ap (λ (q : Rectangle). q .top) e)
+
+pub rectangle-one : (o : List ℕ) → rectangleOf o 1 ≡ pointAt (unmarked (xOf o 0)) (unmarked (yOf o 0))
+unfolding rectangleOf withoutMarks coverTo
+rectangle-one o = refl
+
+pub rectangle-more : (o : List ℕ) (i : ℕ) → 1 ≤ i
+    → rectangleOf o (i + 1) ≡ joined (rectangleOf o i) (unmarked (xOf o i)) (unmarked (yOf o i))
+unfolding rectangleOf withoutMarks coverTo joined
+rectangle-more o zero h = absurd (not-suc-le-zero h)
+rectangle-more o (suc i) h =
     let e : suc i + 1 - 1 ≡ suc i = omega arith in
     let f : suc i - 1 ≡ i = omega arith in
-    rw (e, f)
+    rw (e, f) (simp (lesser-bare, greater-bare))
+
+pub rectangle-bare : (o : List ℕ) (i : ℕ) → withoutMarks (rectangleOf o i) ≡ rectangleOf o i
+unfolding rectangleOf withoutMarks
+rectangle-bare o i = simp unmarked-twice
 
 -- ---- the lesser and the greater of two, by their keys
 
@@ -141,7 +171,7 @@ module _ (o : List ℕ) (b : Bytes o) where
 
   -- so a rectangle that is computed is ordered, by value, also with its marks zero
   ordered : (l r : ℕ) → l < 2 ^ 32 → r < 2 ^ 32 → AtMost l r → leZ (valueOf (unmarked l)) (valueOf (unmarked r)) ≡ true
-  ordered l r f g h = rw (unmarked-value l f, unmarked-value r g, leZ-value l r f g) (le-leb _ _ h)
+  ordered l r f g h = rw (unmarked-value l, unmarked-value r, leZ-value l r f g) (le-leb _ _ h)
 
   pub rectangle-wide : (k : ℕ) → leZ (valueOf (rectangleOf o k .left)) (valueOf (rectangleOf o k .right)) ≡ true
   unfolding rectangleOf withoutMarks

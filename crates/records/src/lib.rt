@@ -1,10 +1,10 @@
 // A type for each kind of record in a map and in a journal: its size, its small constructor, its reader and its writer. Nothing here knows of chains or of
 // journals as a whole.
-use numbers::at_most;
 use numbers::key_of_raw;
 use numbers::key_of_value;
 use numbers::put_u16_at;
 use numbers::put_u32_at;
+use numbers::signed_at_most;
 use numbers::u16_at;
 use numbers::u32_at;
 use numbers::without_marks;
@@ -14,6 +14,7 @@ ghost use Prim.Native.Nat.{ℕ, _+_, _-_, _*_, _≤_, _<_};
 ghost use lib.ListN.{length};
 ghost use lib.Seq.{sets};
 ghost use Rattle.numbers.specs.Bytes.{u16At};
+ghost use Rattle.numbers.specs.Coordinates.{unmarked};
 ghost use Rattle.records.specs.Sizes.{headerSize, slotSize, objectHeaderSize, pairSize, journalRecordSize};
 ghost use Rattle.records.specs.Headers.{headerOf, partOf, pairGood};
 ghost use Rattle.records.specs.Slots.{slotOf, slotBytes, stateOf, foundAt, lenGood, pairsOf, bytesIn, lenOf};
@@ -335,18 +336,20 @@ pub struct Rectangle {
     pub top: u32,
 }
 
-// The one of two raw coordinates that is less by value, the first where they are equal.
+// The one of two raw coordinates that is less by value. Both are without marks, so the signed order is the order by value.
 fn lesser(a: u32, b: u32) -> u32
+    requires { ⌜ (unmarked a ≡ a) × (unmarked b ≡ b) ⌝ }
     ensures { λ r. ⌜ r ≡ lesserOf a b ⌝ }
 {
-    if at_most(a, b) { a } else { b }
+    if signed_at_most(a, b) { a } else { b }
 }
 
-// The one of two raw coordinates that is greater by value, the first where they are equal.
+// The one of two that is greater by value, likewise.
 fn greater(a: u32, b: u32) -> u32
+    requires { ⌜ (unmarked a ≡ a) × (unmarked b ≡ b) ⌝ }
     ensures { λ r. ⌜ r ≡ greaterOf a b ⌝ }
 {
-    if at_most(b, a) { a } else { b }
+    if signed_at_most(b, a) { a } else { b }
 }
 
 impl Rectangle {
@@ -362,8 +365,9 @@ impl Rectangle {
         }
     }
 
-    // The rectangle and a point more.
+    // The rectangle and a point more, both without marks.
     pub fn join(self, x: u32, y: u32) -> Rectangle
+        requires { ⌜ (withoutMarks self ≡ self) × (unmarked x ≡ x) × (unmarked y ≡ y) ⌝ }
         ensures { λ r. ⌜ r ≡ joined self x y ⌝ }
     {
         Rectangle {
@@ -373,47 +377,35 @@ impl Rectangle {
             top: greater(self.top, y),
         }
     }
-
-    // The same rectangle, marks zero.
-    pub fn bare(self) -> Rectangle
-        ensures { λ r. ⌜ r ≡ withoutMarks self ⌝ }
-    {
-        Rectangle {
-            left: without_marks(self.left),
-            bottom: without_marks(self.bottom),
-            right: without_marks(self.right),
-            top: without_marks(self.top),
-        }
-    }
 }
 
-// The raw coordinates of pair i of the object that starts a part.
-fn pair_x(part: &[u8], i: usize) -> u32
+// The coordinates of pair i of the object that starts a part, marks zero.
+fn bare_x(part: &[u8], i: usize) -> u32
     requires { ⌜ (i ≤ 65535) × (objectHeaderSize + pairSize * i + pairSize ≤ length (now part)) ⌝ }
-    ensures { λ r. ⌜ r ≡ xOf (now (part .entry)) i ⌝ }
+    ensures { λ r. ⌜ r ≡ unmarked (xOf (now (part .entry)) i) ⌝ }
 {
-    u32_at(part, ObjectHeader::SIZE + ObjectHeader::PAIR * i)
+    without_marks(u32_at(part, ObjectHeader::SIZE + ObjectHeader::PAIR * i))
 }
 
-fn pair_y(part: &[u8], i: usize) -> u32
+fn bare_y(part: &[u8], i: usize) -> u32
     requires { ⌜ (i ≤ 65535) × (objectHeaderSize + pairSize * i + pairSize ≤ length (now part)) ⌝ }
-    ensures { λ r. ⌜ r ≡ yOf (now (part .entry)) i ⌝ }
+    ensures { λ r. ⌜ r ≡ unmarked (yOf (now (part .entry)) i) ⌝ }
 {
-    u32_at(part, ObjectHeader::SIZE + ObjectHeader::PAIR * i + 4)
+    without_marks(u32_at(part, ObjectHeader::SIZE + ObjectHeader::PAIR * i + 4))
 }
 
-// The least rectangle over the first pairs of the object that starts a part.
+// The least rectangle over the first pairs of the object that starts a part. The marks are dropped first: then each side is a signed least or greatest.
 pub fn least_rectangle(part: &[u8], items: usize) -> Rectangle
     requires { ⌜ (1 ≤ items) × (items ≤ 65535) × (objectHeaderSize + pairSize * items ≤ length (now part)) ⌝ }
     ensures { λ r. ⌜ r ≡ rectangleOf (now (part .entry)) items ⌝ }
 {
-    let mut cover = Rectangle::point(pair_x(part, 0), pair_y(part, 0));
+    let mut cover = Rectangle::point(bare_x(part, 0), bare_y(part, 0));
     let mut i = 1;
     while i < items {
-        cover = cover.join(pair_x(part, i), pair_y(part, i));
+        cover = cover.join(bare_x(part, i), bare_y(part, i));
         i += 1;
     }
-    cover.bare()
+    cover
 }
 
 // ---- windows
