@@ -71,7 +71,7 @@ fn bucket_of(number: u32) -> usize
 }
 
 // Whether one of the chained records has a number. The chain of its bucket begins with `from`, and the last record comes first.
-fn stands_before(j: &[u8], earlier: &[u32], from: u32, number: u32) -> bool
+fn stands_before(j: &[u8], earlier: &[u16], from: u16, number: u32) -> bool
     requires { ⌜ Chained (now j) (now earlier) × (from ≡ lastIn (now j) (bucketOf number) (length (now earlier))) ⌝ }
     ensures { λ r. ⌜ r ≡ any (λ (k : ℕ). eqb (recordIn (now (j .entry)) k .number) number) (length (now (earlier .entry))) ⌝ }
 {
@@ -94,8 +94,8 @@ fn judge_records(j: &[u8], m: &[u8], order: &[u32], n: usize, e: u32) -> Judged
     ensures { λ r. ⌜ r ≡ judged (now (j .entry)) (now (m .entry)) n e ⌝ }
 {
     let all = j.len() / JournalRecord::SIZE;
-    let mut heads = [0u32; BUCKETS];
-    let mut earlier = [0u32; JournalRecord::LIMIT / JournalRecord::SIZE];
+    let mut heads = [0u16; BUCKETS];
+    let mut earlier = [0u16; JournalRecord::LIMIT / JournalRecord::SIZE];
     let mut held = JournalRecord::new(0, 0, 0);
     let mut i = 0;
     while i < all {
@@ -115,7 +115,7 @@ fn judge_records(j: &[u8], m: &[u8], order: &[u32], n: usize, e: u32) -> Judged
             return Judged::Bad;
         }
         earlier[i] = last;
-        heads[bucket] = (i + 1) as u32;
+        heads[bucket] = (i + 1) as u16;
         if r.number == e {
             held = r;
         }
