@@ -4,8 +4,7 @@
 --     floorDiv z m      z divided by m and rounded down
 --     valueOf raw       the value of a raw coordinate in 0.01 mm: the signed number divided by 256 and rounded down
 --     unmarked raw      the raw coordinate with its low 8 bits, the marks, zero
---     key z             z + 2147483648, a number that is never negative: keys are ordered as the signed numbers are
-use Prim.Native.Nat.{ℕ, _+_, _-_, _*_, _/_}
+use Prim.Native.Nat.{ℕ, _-_, _*_, _/_}
 use mathlib.Core.Bool.{cond}
 use lib.Dec.{ltb}
 use lib.IntN.{ℤ, pos, negsuc}
@@ -28,7 +27,3 @@ valueOf raw = floorDiv (signed32 raw) 256
 
 unfoldable pub unmarked : ℕ → ℕ
 unmarked raw = raw / 256 * 256
-
-abbrev pub key : ℤ → ℕ
-key (pos n) = 2147483648 + n
-key (negsuc n) = 2147483647 - n

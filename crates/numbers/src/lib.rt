@@ -5,7 +5,7 @@ ghost use lib.ListN.{length, replicate};
 ghost use lib.Seq.{sets};
 ghost use lib.Signed.{leZ};
 ghost use Rattle.numbers.specs.Bytes.{u16At, u32At, bytesOf, sameBytes};
-ghost use Rattle.numbers.specs.Coordinates.{signed16, signed32, valueOf, unmarked, key};
+ghost use Rattle.numbers.specs.Coordinates.{signed16, signed32, valueOf, unmarked};
 ghost use Rattle.numbers.specs.Ranges.{share};
 
 // ---- little-endian numbers
@@ -70,25 +70,32 @@ pub fn put_u32_at(s: &mut [u8], at: usize, v: u32)
 
 // ---- coordinates
 
-// The key of a raw coordinate's value, with no branch: the sign bit is flipped and the marks are dropped.
-pub fn key_of_raw(raw: u32) -> u32
-    ensures { λ r. ⌜ r ≡ key (valueOf raw) ⌝ }
+// The value of a raw coordinate: the shift drops the marks and rounds down.
+pub fn value_of(raw: u32) -> i32
+    ensures { λ r. ⌜ r ≡ valueOf raw ⌝ }
 {
-    2139095040 + (((raw as u64 + 2147483648) % 4294967296 / 256) as u32)
-}
-
-// The key of a value.
-pub fn key_of_value(z: i32) -> u32
-    ensures { λ r. ⌜ r ≡ key z ⌝ }
-{
-    (z as i64 + 2147483648) as u32
+    signed32_of(raw) >> 8
 }
 
 // Whether one raw coordinate is at most another, by value.
 pub fn at_most(a: u32, b: u32) -> bool
     ensures { λ r. ⌜ r ≡ leZ (valueOf a) (valueOf b) ⌝ }
 {
-    key_of_raw(a) <= key_of_raw(b)
+    value_of(a) <= value_of(b)
+}
+
+// Whether a raw coordinate's value is at most a number.
+pub fn value_at_most(raw: u32, z: i32) -> bool
+    ensures { λ r. ⌜ r ≡ leZ (valueOf raw) z ⌝ }
+{
+    value_of(raw) <= z
+}
+
+// Whether a raw coordinate's value is at least a number.
+pub fn value_at_least(raw: u32, z: i32) -> bool
+    ensures { λ r. ⌜ r ≡ leZ z (valueOf raw) ⌝ }
+{
+    z <= value_of(raw)
 }
 
 // A raw coordinate without its marks.

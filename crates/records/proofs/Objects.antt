@@ -10,9 +10,9 @@ use lib.Dec.{leb}
 use lib.Signed.{leZ}
 use borrow.Author.Tests.{le-leb, lt-leb, leb-true, leb-false}
 use Rattle.numbers.specs.Bytes.{Bytes}
-use Rattle.numbers.specs.Coordinates.{valueOf, unmarked, key}
+use Rattle.numbers.specs.Coordinates.{valueOf, unmarked}
 use Rattle.numbers.proofs.Bytes.{leAt-lt}
-use Rattle.numbers.proofs.Coordinates.{leZ-value, unmarked-value}
+use Rattle.numbers.proofs.Coordinates.{key, leZ-value, unmarked-value}
 use Rattle.records.specs.Objects.{xOf, yOf, lesserOf, greaterOf, joined, coverTo, rectangleOf, withoutMarks}
 
 pub cover-more : (o : List ℕ) (i : ℕ) → 1 ≤ i → coverTo o (i + 1 - 1) ≡ joined (coverTo o (i - 1)) (xOf o i) (yOf o i)

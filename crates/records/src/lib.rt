@@ -1,12 +1,12 @@
 // A type for each kind of record in a map and in a journal: its size, its small constructor, its reader and its writer. Nothing here knows of chains or of
 // journals as a whole.
 use numbers::at_most;
-use numbers::key_of_raw;
-use numbers::key_of_value;
 use numbers::put_u16_at;
 use numbers::put_u32_at;
 use numbers::u16_at;
 use numbers::u32_at;
+use numbers::value_at_least;
+use numbers::value_at_most;
 use numbers::without_marks;
 ghost use mathlib.Core.Path.{_≡_};
 ghost use mathlib.Core.Bool.{true};
@@ -433,20 +433,15 @@ pub fn window_good(w: Window) -> bool
     if left <= right { bottom <= top } else { false }
 }
 
-// Whether a slot's rectangle meets a window: by value, and touching counts.
+// Whether a slot's rectangle meets a window: by value, and touching counts. All four tests are made, since no branch on a coordinate can be foreseen.
 pub fn meets_window(t: Slot, w: Window) -> bool
     ensures { λ r. ⌜ r ≡ meetsWindow t w ⌝ }
 {
-    if key_of_value(w.right) < key_of_raw(t.left) {
-        return false;
-    }
-    if key_of_raw(t.right) < key_of_value(w.left) {
-        return false;
-    }
-    if key_of_value(w.top) < key_of_raw(t.bottom) {
-        return false;
-    }
-    key_of_value(w.bottom) <= key_of_raw(t.top)
+    let left = value_at_most(t.left, w.right);
+    let right = value_at_least(t.right, w.left);
+    let bottom = value_at_most(t.bottom, w.top);
+    let top = value_at_least(t.top, w.bottom);
+    left & right & bottom & top
 }
 
 // ---- symbol records
