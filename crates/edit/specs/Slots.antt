@@ -19,7 +19,7 @@ use Rattle.numbers.specs.Below.{first}
 use Rattle.records.specs.declared.Slot.{Slot}
 use Rattle.records.specs.declared.State.{State}
 use Rattle.records.specs.declared.State.the-variants.{Free, Erased, Live}
-use Rattle.records.specs.Slots.{slotOf, stateOf}
+use Rattle.records.specs.Slots.{slotOf, stateOf, sameState}
 use Rattle.accept.specs.declared.Verdict.{Verdict}
 use Rattle.accept.specs.declared.Verdict.the-variants.{Accepted, Refused}
 use Rattle.accept.specs.Rules.{slotAt}
@@ -27,17 +27,6 @@ use Rattle.accept.specs.Verdicts.{verdict}
 
 unfoldable pub slotIn : List ℕ → ℕ → Slot
 slotIn m s = slotOf m (slotAt m s)
-
-abbrev pub sameState : State → State → Bool
-sameState Free Free = true
-sameState Free Erased = false
-sameState Free Live = false
-sameState Erased Free = false
-sameState Erased Erased = true
-sameState Erased Live = false
-sameState Live Free = false
-sameState Live Erased = false
-sameState Live Live = true
 
 unfoldable pub hasState : State → List ℕ → ℕ → ℕ → Bool
 hasState k m n s = ltb s (256 * n) && sameState k (stateOf (slotIn m s))
