@@ -1,7 +1,6 @@
 // The search by rectangle: one loop over the slots, which counts and lists.
 use accept::Verdict;
 use chain::next_cell;
-use numbers::signed32_of;
 use numbers::u32_at;
 use records::Header;
 use records::Slot;
@@ -20,7 +19,7 @@ ghost use Rattle.chain.specs.Chains.{walked};
 ghost use Rattle.chain.specs.declared.Walk.the-variants.{Blocks};
 ghost use Rattle.accept.specs.Rules.{indexRule};
 ghost use Rattle.find.specs.Searches.{numberOf, placeOf, countOf, blocksOf, checkedLength, wantedAt, selected, answerOf, listAfter};
-ghost use Rattle.find.specs.Inputs.{windowSize, windowOf, inputAnswer, inputList};
+ghost use Rattle.find.specs.Inputs.{inputAnswer, inputList};
 
 // What a search answers: the count found and the blocks walked; or the count that the list is too short for; or a refusal.
 pub enum Answer {
@@ -174,36 +173,26 @@ pub fn search(m: &[u8], used: usize, w: Window, list: &mut [u32]) -> Answer
     }
 }
 
-// The window that starts the search program's input.
-fn window_of(input: &[u8]) -> Window
-    requires { ⌜ windowSize ≤ length (now input) ⌝ }
-    ensures { λ r. ⌜ r ≡ windowOf (now (input .entry)) ⌝ }
-{
-    Window {
-        left: signed32_of(u32_at(input, 0)),
-        bottom: signed32_of(u32_at(input, 4)),
-        right: signed32_of(u32_at(input, 8)),
-        top: signed32_of(u32_at(input, 12)),
-    }
-}
+// The search program takes a map of at most so many bytes.
+pub const PROGRAM_LIMIT: usize = 65536;
 
-// The search on the program's input: a window, then a map of at most 65,536 bytes.
+// The search on the program's input: a window, then a map.
 pub fn search_input(input: &[u8], list: &mut [u32]) -> Answer
     ensures { λ r. ⌜ (r ≡ inputAnswer (now (input .entry)) (length (now (list .entry)))) × (now (list .exit) ≡ inputList (now (input .entry)) (now (list .entry))) ⌝ }
 {
-    if input.len() < 16 {
+    if input.len() < Window::SIZE {
         return Answer::Refused {
             number: 1,
             place: 0,
         };
     }
-    if 65552 < input.len() {
+    let used = input.len() - Window::SIZE;
+    if PROGRAM_LIMIT < used {
         return Answer::Refused {
             number: 1,
             place: 0,
         };
     }
-    let w = window_of(input);
-    let used = input.len() - 16;
-    search(&input[16..], used, w, list)
+    let w = Window::of(input);
+    search(&input[Window::SIZE..], used, w, list)
 }

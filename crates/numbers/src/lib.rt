@@ -127,6 +127,14 @@ pub fn signed32_of(n: u32) -> i32
     }
 }
 
+// The signed thirty-two-bit number at a place.
+pub fn i32_at(s: &[u8], at: usize) -> i32
+    requires { ⌜ at + 4 ≤ length (now s) ⌝ }
+    ensures { λ r. ⌜ r ≡ signed32 (u32At (now (s .entry)) at) ⌝ }
+{
+    signed32_of(u32_at(s, at))
+}
+
 // ---- ranges
 
 // Whether two ranges share a byte.

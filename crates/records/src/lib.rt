@@ -1,6 +1,7 @@
 // A type for each kind of record in a map and in a journal: its size, its small constructor, its reader and its writer. Nothing here knows of chains or of
 // journals as a whole.
 use numbers::at_most;
+use numbers::i32_at;
 use numbers::put_u16_at;
 use numbers::put_u32_at;
 use numbers::u16_at;
@@ -14,11 +15,11 @@ ghost use Prim.Native.Nat.{ℕ, _+_, _-_, _*_, _≤_, _<_};
 ghost use lib.ListN.{length};
 ghost use lib.Seq.{sets};
 ghost use Rattle.numbers.specs.Bytes.{u16At};
-ghost use Rattle.records.specs.Sizes.{headerSize, slotSize, objectHeaderSize, pairSize, journalRecordSize};
+ghost use Rattle.records.specs.Sizes.{headerSize, slotSize, objectHeaderSize, pairSize, windowSize, journalRecordSize};
 ghost use Rattle.records.specs.Headers.{headerOf, partOf, pairGood};
 ghost use Rattle.records.specs.Slots.{slotOf, slotBytes, stateOf, stateNumber, sameState, foundAt, lenGood, pairsOf, bytesIn, lenOf};
 ghost use Rattle.records.specs.Objects.{objectOf, typeGood, xOf, yOf, lesserOf, greaterOf, pointAt, joined, withoutMarks, rectangleOf};
-ghost use Rattle.records.specs.Windows.{windowGood, meetsWindow};
+ghost use Rattle.records.specs.Windows.{windowOf, windowGood, meetsWindow};
 ghost use Rattle.records.specs.Symbols.{sizeGood};
 ghost use Rattle.records.specs.Journals.{recordOf, recordBytes, recordFor, shapeGood, isUnused};
 
@@ -438,6 +439,24 @@ pub struct Window {
     pub bottom: i32,
     pub right: i32,
     pub top: i32,
+}
+
+impl Window {
+    // Four numbers, in a program's input.
+    pub const SIZE: usize = 16;
+
+    // The window that starts a part.
+    pub fn of(part: &[u8]) -> Window
+        requires { ⌜ windowSize ≤ length (now part) ⌝ }
+        ensures { λ r. ⌜ r ≡ windowOf (now (part .entry)) ⌝ }
+    {
+        Window {
+            left: i32_at(part, 0),
+            bottom: i32_at(part, 4),
+            right: i32_at(part, 8),
+            top: i32_at(part, 12),
+        }
+    }
 }
 
 // Whether left is at most right and bottom at most top.
