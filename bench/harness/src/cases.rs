@@ -2,7 +2,7 @@
 
 use crate::calls::{Call, Lent};
 use crate::maps::{self, Map};
-use crate::measure::{run, Effort, Row, Want};
+use crate::measure::{run, Effort, Row, Start, Want};
 use crate::report::{grouped, print_group, print_row};
 
 /// Bytes of objects before each block of a full map: 2,000 such blocks fit the limit.
@@ -17,7 +17,7 @@ pub const SMALL_WINDOW: &str = "small window, 2,000 blocks";
 const CHECK: &str = "Check";
 const SEARCH: &str = "Search";
 const EDITS: &str = "Edits";
-pub const GROWS: &str = "Growth of the check";
+pub const GROWS: &str = "Growth of the check, from a cold start";
 const WORST: &str = "Worst maps and journals";
 
 pub struct Bench {
@@ -27,7 +27,11 @@ pub struct Bench {
 
 impl Bench {
     fn row(&mut self, group: &'static str, name: &str, lent: Lent, call: Call, want: Want) {
-        let row = run(group, name, lent, call, want, &self.effort);
+        self.row_from(Start::Warm, group, name, lent, call, want);
+    }
+
+    fn row_from(&mut self, from: Start, group: &'static str, name: &str, lent: Lent, call: Call, want: Want) {
+        let row = run(group, name, lent, call, want, from, &self.effort);
         if self.rows.last().map(|last| last.group) != Some(group) {
             print_group(group);
         }
@@ -62,6 +66,7 @@ impl Bench {
         self.check(CHECK, "20 full blocks, OCAD 7, own objects", &maps::own_objects(7, 20));
         self.check(CHECK, "1,000 full blocks, OCAD 7, own objects", &maps::own_objects(7, 1_000));
         self.check(CHECK, "2,000 full blocks, OCAD 7", &maps::full(7, 2_000, ROOM));
+        self.check(CHECK, "250 full blocks, OCAD 8", &maps::full(8, 250, ROOM));
         self.check(CHECK, "2,000 full blocks, OCAD 8", &maps::full(8, 2_000, ROOM));
     }
 
@@ -111,7 +116,9 @@ impl Bench {
 
     fn growth(&mut self) {
         for blocks in GROWTH {
-            self.check(GROWS, &format!("{} full blocks", grouped(blocks)), &maps::full(8, blocks, ROOM));
+            let name = format!("{} full blocks", grouped(blocks));
+            let lent = lend(&maps::full(8, blocks, ROOM), Vec::new());
+            self.row_from(Start::Cold, GROWS, &name, lent, Call::Check, Want::Done);
         }
     }
 

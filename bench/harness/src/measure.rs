@@ -38,6 +38,18 @@ impl Row {
     }
 }
 
+/// Where the map is when a sample starts.
+#[derive(Clone, Copy, PartialEq)]
+pub enum Start {
+    /// In the caches, as far as it fits: the sample before left it there.
+    Warm,
+    /// Out of the core's own caches, whatever its size.
+    Cold,
+}
+
+/// So many bytes are written before a cold start.
+const ELSEWHERE: usize = 64 << 20;
+
 /// How long an input is timed.
 pub struct Effort {
     pub least_pairs: usize,
@@ -49,14 +61,25 @@ pub struct Effort {
 const SAMPLE_NS: f64 = 20_000.0;
 
 /// Stops the program if the sides differ in an answer or a byte.
-pub fn run(group: &'static str, name: &str, lent: Lent, call: Call, want: Want, effort: &Effort) -> Row {
+pub fn run(
+    group: &'static str,
+    name: &str,
+    lent: Lent,
+    call: Call,
+    want: Want,
+    from: Start,
+    effort: &Effort,
+) -> Row {
     let (answer, after) = compare(name, &lent, &call, want);
     let changes = Changes::between(&lent, &after);
     let mut work = after;
     changes.undo(&mut work);
 
+    let mut elsewhere = vec![0u8; if from == Start::Cold { ELSEWHERE } else { 0 }];
+
     // one sample: the nanoseconds of a call; what it changes is put back outside the timing
     let mut sample = |side: &Side, batch: usize| -> f64 {
+        black_box(&mut elsewhere).iter_mut().step_by(64).for_each(|byte| *byte = byte.wrapping_add(1));
         let start = processor_ns();
         for _ in 0..batch {
             black_box(side.make(black_box(&call), &mut work));
@@ -67,7 +90,8 @@ pub fn run(group: &'static str, name: &str, lent: Lent, call: Call, want: Want, 
     };
     let mut warm = || sample(&LIBRARY, 1).max(sample(&BASELINE, 1));
     let once = (0..3).map(|_| warm()).fold(f64::MAX, f64::min).max(1.0);
-    let batch = if changes.none() { (SAMPLE_NS / once).ceil() as usize } else { 1 };
+    let repeatable = changes.none() && from == Start::Warm;
+    let batch = if repeatable { (SAMPLE_NS / once).ceil() as usize } else { 1 };
 
     let (mut library, mut baseline) = (Vec::new(), Vec::new());
     let start = Instant::now();

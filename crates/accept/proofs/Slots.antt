@@ -12,7 +12,7 @@ use Rattle.numbers.specs.Below.{first}
 use Rattle.numbers.proofs.Below.{first-is, first-law}
 use Rattle.records.specs.declared.Slot.{Slot}
 use Rattle.records.specs.declared.State.the-variants.{Free}
-use Rattle.records.specs.Slots.{slotOf, stateOf}
+use Rattle.records.specs.Slots.{slotOf, stateOf, sameState}
 use Rattle.accept.specs.declared.Verdict.{Verdict}
 use Rattle.accept.specs.declared.Verdict.the-variants.{Accepted, Refused}
 use Rattle.accept.specs.declared.Examined.{Examined}
@@ -20,7 +20,7 @@ use Rattle.accept.specs.declared.Examined.the-variants as examined
 use Rattle.accept.specs.Rules.{slotAt}
 use Rattle.accept.specs.declared.Told.the-variants as told
 use Rattle.accept.specs.Judging.{slotGood, badSlot}
-use Rattle.accept.specs.Slots.{slotIn, sameState, freeSlot, noLen, slotTold, isBad, firstFree, withFree}
+use Rattle.accept.specs.Slots.{slotIn, freeSlot, noLen, slotTold, isBad, firstFree, withFree}
 
 -- ---- the first number that passes, with one number more
 

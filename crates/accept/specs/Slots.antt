@@ -1,6 +1,5 @@
 -- The slots of a map m of n index blocks.
 --     slotIn m s        the fields of slot s
---     sameState k l     whether two states are the same
 --     freeSlot m n      the first free slot in slot order, or 256 * n where none is free
 --     noLen m p         whether the slot at a place has no Len, which is what makes it free
 --     slotTold ..       what the slot at a place is judged to be
@@ -13,9 +12,8 @@ use lib.Dec.{eqb, ltb}
 use Rattle.numbers.specs.Bytes.{u16At}
 use Rattle.numbers.specs.Below.{first}
 use Rattle.records.specs.declared.Slot.{Slot}
-use Rattle.records.specs.declared.State.{State}
-use Rattle.records.specs.declared.State.the-variants.{Free, Erased, Live}
-use Rattle.records.specs.Slots.{slotOf, stateOf}
+use Rattle.records.specs.declared.State.the-variants.{Free}
+use Rattle.records.specs.Slots.{slotOf, stateOf, sameState}
 use Rattle.accept.specs.declared.Verdict.{Verdict}
 use Rattle.accept.specs.declared.Verdict.the-variants.{Accepted, Refused}
 use Rattle.accept.specs.declared.Examined.{Examined}
@@ -27,17 +25,6 @@ use Rattle.accept.specs.Judging.{badSlot}
 
 unfoldable pub slotIn : List ℕ → ℕ → Slot
 slotIn m s = slotOf m (slotAt m s)
-
-abbrev pub sameState : State → State → Bool
-sameState Free Free = true
-sameState Free Erased = false
-sameState Free Live = false
-sameState Erased Free = false
-sameState Erased Erased = true
-sameState Erased Live = false
-sameState Live Free = false
-sameState Live Erased = false
-sameState Live Live = true
 
 unfoldable pub freeSlot : List ℕ → ℕ → ℕ
 freeSlot m n = first (λ s. sameState Free (stateOf (slotIn m s))) (256 * n)

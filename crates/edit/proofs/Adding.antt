@@ -20,7 +20,7 @@ use Rattle.numbers.proofs.Bytes.{lent-sets, sets-splice}
 use Rattle.numbers.proofs.Below.{first-is, first-law}
 use Rattle.records.specs.declared.Slot.{Slot}
 use Rattle.records.specs.declared.State.the-variants.{Free}
-use Rattle.records.specs.Slots.{slotOf, slotBytes, stateOf}
+use Rattle.records.specs.Slots.{slotOf, slotBytes, stateOf, sameState}
 use Rattle.records.specs.Journals.{recordFor}
 use Rattle.records.proofs.Slots.{length-slotBytes}
 use Rattle.chain.proofs.Chains.{few}
@@ -38,7 +38,7 @@ use Rattle.journal.specs.Journals.{recordIn, slotUsed, holder, isFull, appended
 use Rattle.journal.proofs.Journals.{good-tells, well-formed-tells, held-tells, looked-held}
 use Rattle.edit.specs.declared.Answer.the-variants.{Done, Refused}
 use Rattle.edit.specs.declared.Start.the-variants as starts
-use Rattle.edit.specs.Slots.{slotIn, sameState, freeSlot}
+use Rattle.edit.specs.Slots.{slotIn, freeSlot}
 use Rattle.edit.specs.Objects.{pairLimit, offeredGood, blockFor, isObject}
 use Rattle.edit.specs.Edits.{saying, afterLook, afterCheck, startOf, newLength, inFree, inBlock, addedMap, repeatAdd, freshAdd, added}
 use Rattle.edit.proofs.Objects.{offered-tells}

@@ -13,7 +13,7 @@ use Rattle.numbers.proofs.Bytes.{leAt-lt}
 use Rattle.records.specs.declared.Slot.{Slot}
 use Rattle.records.specs.declared.State.{State}
 use Rattle.records.specs.declared.State.the-variants.{Erased, Live}
-use Rattle.records.specs.Slots.{stateOf}
+use Rattle.records.specs.Slots.{stateOf, sameState}
 use Rattle.records.specs.Sizes.{indexBlockSize, indexPage}
 use Rattle.records.specs.Headers.{indexHead}
 use Rattle.records.specs.Journals.{recordFor}
@@ -40,7 +40,7 @@ use Rattle.edit.specs.declared.Answer.{Answer}
 use Rattle.edit.specs.declared.Answer.the-variants.{Done, Refused}
 use Rattle.edit.specs.declared.Start.the-variants as starts
 use Rattle.edit.specs.declared.NewSym.the-variants.{Write, None}
-use Rattle.edit.specs.Slots.{slotIn, sameState, hasState, resym, withSym, objectSym, isAccepted, canReinstate, allowedFor, symFor}
+use Rattle.edit.specs.Slots.{slotIn, hasState, resym, withSym, objectSym, isAccepted, canReinstate, allowedFor, symFor}
 use Rattle.edit.specs.NewSyms.{symToReinstate, newSymFor}
 use Rattle.edit.specs.Edits.{Outcome, saying, afterLook, afterCheck, startOf, Known, repeatChange, freshChange, changed}
 use Rattle.edit.proofs.Syms.{len-some, has-tells, accepted-good}

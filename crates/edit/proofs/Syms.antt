@@ -17,7 +17,7 @@ use Rattle.numbers.proofs.Below.{never}
 use Rattle.records.specs.declared.Slot.{Slot}
 use Rattle.records.specs.declared.State.{State}
 use Rattle.records.specs.declared.State.the-variants.{Free, Erased, Live}
-use Rattle.records.specs.Slots.{slotOf, stateOf}
+use Rattle.records.specs.Slots.{slotOf, stateOf, sameState}
 use Rattle.records.proofs.Slots.{slot-ext}
 use Rattle.chain.specs.declared.Walk.the-variants.{Blocks}
 use Rattle.accept.specs.declared.Verdict.{Verdict}
@@ -29,7 +29,7 @@ use Rattle.accept.proofs.Accepting.{Holds, accepted-is, accepted-tells, blocks-
 use Rattle.accept.proofs.Telling.{and-true, GoodSlot, slot-is, slot-tells, bad-good, bad-dead, bad-tells}
 use Rattle.accept.proofs.Frame.{Change, touch-same, good-kept, slot-kept, version-same, change-accepted, change-back}
 use Rattle.accept.proofs.Writes.{slot-lies, store-change, store-place, store-other}
-use Rattle.edit.specs.Slots.{slotIn, sameState, hasState, resym, withSym, objectSym, isAccepted, canReinstate}
+use Rattle.edit.specs.Slots.{slotIn, hasState, resym, withSym, objectSym, isAccepted, canReinstate}
 
 -- ---- states
 

@@ -16,11 +16,10 @@ use Rattle.numbers.specs.Bytes.{u16At, bytesOf}
 use Rattle.records.specs.declared.Slot.{Slot}
 use Rattle.records.specs.declared.State.{State}
 use Rattle.records.specs.declared.State.the-variants.{Erased, Live}
-use Rattle.records.specs.Slots.{stateOf}
+use Rattle.records.specs.Slots.{stateOf, sameState}
 use Rattle.accept.specs.declared.Verdict.{Verdict}
 use Rattle.accept.specs.declared.Verdict.the-variants.{Accepted, Refused}
 use Rattle.accept.specs.Rules.{slotAt}
-pub use Rattle.accept.specs.Slots.{sameState}
 unfoldable pub use Rattle.accept.specs.Slots.{slotIn, freeSlot}
 use Rattle.accept.specs.Verdicts.{verdict}
 

@@ -29,14 +29,14 @@ use Rattle.numbers.proofs.Bytes.{getD-sets-high, getD-sets-in}
 use Rattle.records.specs.declared.Window.{Window}
 use Rattle.records.specs.declared.State.{State}
 use Rattle.records.specs.declared.State.the-variants.{Free, Erased, Live}
-use Rattle.records.specs.Slots.{slotOf, stateOf}
+use Rattle.records.specs.Slots.{slotOf, stateOf, sameState}
 use Rattle.records.specs.Windows.{windowGood, meetsWindow}
 use Rattle.chain.specs.Chains.{walked}
 use Rattle.chain.specs.declared.Walk.the-variants.{Blocks}
 use Rattle.accept.specs.declared.Verdict.{Verdict}
 use Rattle.accept.specs.declared.Verdict.the-variants as verdicts
 use Rattle.accept.specs.Rules.{indexRule, slotAt}
-use Rattle.accept.specs.Judging.{lengthGood, isLive}
+use Rattle.accept.specs.Judging.{lengthGood}
 use Rattle.accept.specs.Verdicts.{headerJudged, verdict}
 use Rattle.accept.proofs.Accepting.{accepted-tells}
 use Rattle.find.specs.declared.Answer.{Answer}
@@ -72,7 +72,7 @@ le-is a b = (λ e. record { le = rw e tt }, λ h. go (leZ a b) (h .le))
     go true h = refl
     go false h = absurd h
 
-live-state : (t : State) → isLive t ≡ true → t ≡ Live
+live-state : (t : State) → sameState Live t ≡ true → t ≡ Live
 live-state Free e = absurd (never (sym e))
 live-state Erased e = absurd (never (sym e))
 live-state Live e = refl
@@ -82,7 +82,7 @@ unfolding wantedAt meetsWindow
 live-is m w s = (
   λ e.
       let t = slotOf m (slotAt m s) in
-      let a = and-eq-true-iff (isLive (stateOf t)) (meetsWindow t w) .0 e in
+      let a = and-eq-true-iff (sameState Live (stateOf t)) (meetsWindow t w) .0 e in
       let b = and-eq-true-iff (leZ (valueOf (t .left)) (w .right)) _ .0 (a .1) in
       let c = and-eq-true-iff (leZ (w .left) (valueOf (t .right))) _ .0 (b .1) in
       let d = and-eq-true-iff (leZ (valueOf (t .bottom)) (w .top)) _ .0 (c .1) in

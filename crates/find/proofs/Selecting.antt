@@ -1,17 +1,20 @@
--- The look at one slot after the other, for any test of a slot's number, that counts those that pass or stores their numbers.
---     Selecting m used n test at s count       slot s stands at `at`, and count slots below s pass
---     Listing m used n test l₀ l at s count    also, their numbers stand in the first entries of l, and the rest is that of l₀
--- Each has its start, its two kinds of turn and its end. There is room for one number more, since the list of those that pass only grows. Assumes nothing.
+-- The look at one slot after the other, for any test of a slot's number, that counts those that pass and stores their numbers as far as there is room.
+--     Selecting m used n test l₀ l at s count    slot s stands at `at`, count slots below s pass, and l is l₀ with their numbers in its first entries
+-- `sets` writes nothing past the end of a list, so this holds whether there is room or not. Assumes nothing.
 use Prim.Native.Nat.{ℕ, _+_, _*_, _%_, _≤_, _<_}
-use mathlib.Core.Bool.{Bool, true, false}
-use mathlib.Core.Path.{_≡_, refl, ap, _∙_}
+use mathlib.Core.Bool.{Bool, true, false, _&&_}
+use mathlib.Core.Path.{_≡_, refl, sym, ap, _∙_}
 use mathlib.Core.List.{List}
+use native.Mathlib.Nat.{add-zero}
 use native.Mathlib.Omega.{arith}
+use lib.Dec.{ltb}
 use lib.ListN.{length, set, length-append}
-use lib.Seq.{sets, length-sets}
+use lib.Seq.{sets, length-sets, set-out}
+use mir.Val.{boolByte}
+use borrow.Author.Tests.{ltb-false}
 use Rattle.numbers.specs.Bytes.{u32At}
 use Rattle.numbers.specs.Below.{sel}
-use Rattle.numbers.proofs.Below.{sel-yes, sel-no, sel-length, sel-less}
+use Rattle.numbers.proofs.Below.{never, sel-yes, sel-no, sel-length}
 use Rattle.numbers.proofs.Bytes.{sets-snoc}
 use Rattle.records.specs.Sizes.{slotSize, mapLimit}
 use Rattle.records.specs.Headers.{indexHead}
@@ -23,13 +26,15 @@ use Rattle.accept.specs.Rules.{indexRule, slotAt}
 use Rattle.accept.proofs.Looking.{Looking, look-start, look-lies, look-on}
 use Rattle.find.specs.Searches.{slotsFor}
 
-pub record Selecting (m : List ℕ) (used n : ℕ) (test : ℕ → Bool) (at s count : ℕ) : Type 0 where
+pub record Selecting (m : List ℕ) (used n : ℕ) (test : ℕ → Bool) (l₀ l : List ℕ) (at s count : ℕ) : Type 0 where
   pub look : Looking (indexRule m) m used slotSize n (λ p. false) at s
   pub counted : count ≡ length (sel test s)
-
-pub record Listing (m : List ℕ) (used n : ℕ) (test : ℕ → Bool) (l₀ l : List ℕ) (at s count : ℕ) : Type 0 where
-  pub select : Selecting m used n test at s count
   pub stored : l ≡ sets l₀ 0 (sel test s)
+
+-- what a slot adds to the count
+pub one-at-most : (hit : Bool) → boolByte hit ≤ 1
+one-at-most true = omega arith
+one-at-most false = omega arith
 
 -- a map of at most 16,777,216 bytes has at most 2,728 index blocks, and 256 slots in each
 pub few-blocks : {m : List ℕ} {used n : ℕ} → Pass (indexRule m) m used n → used ≤ mapLimit → n ≤ 2728
@@ -39,62 +44,59 @@ pub slots-low : (test : ℕ → Bool) (n : ℕ) → length (slotsFor test n) ≤
 unfolding slotsFor
 slots-low test n = sel-length test (256 * n)
 
-pub select-start : {m : List ℕ} {used n : ℕ} {test : ℕ → Bool} {p : ℕ} → walked (indexRule m) m used ≡ Blocks n → p ≡ u32At m indexHead → Selecting m used n test (p + 4) 0 0
+pub select-start : {m : List ℕ} {used n : ℕ} {test : ℕ → Bool} {l : List ℕ} {p : ℕ} → walked (indexRule m) m used ≡ Blocks n → p ≡ u32At m indexHead → Selecting m used n test l l (p + 4) 0 0
 unfolding sel
-select-start {m} {used} h e = record { look = look-start (walked-pass (indexRule m) m used h) (omega arith) e; counted = refl }
+select-start {m} {used} h e =
+    record {
+      look = look-start (walked-pass (indexRule m) m used h) (omega arith) e;
+      counted = refl;
+      stored = refl;
+    }
 
-pub list-start : {m : List ℕ} {used n : ℕ} {test : ℕ → Bool} {l : List ℕ} {at : ℕ} → Selecting m used n test at 0 0 → Listing m used n test l l at 0 0
-unfolding sel
-list-start k = record { select = k; stored = refl }
-
-module _ {m : List ℕ} {used n : ℕ} {test : ℕ → Bool} {at s count : ℕ} (k : Selecting m used n test at s count) where
+module _ {m : List ℕ} {used n : ℕ} {test : ℕ → Bool} {l₀ l : List ℕ} {at s count : ℕ} (k : Selecting m used n test l₀ l at s count) where
   -- the slot lies in the map, and the next is found
-  module _ (l : s < 256 * n) (h : used ≤ length m) where
+  module _ (h : s < 256 * n) (r : used ≤ length m) where
     pub select-inside : at + slotSize ≤ length m
-    select-inside = omega (arith, look-lies (k .look) l .high, k .look .here)
+    select-inside = omega (arith, look-lies (k .look) h .high, k .look .here)
 
     pub select-ready : (at ≤ length m) × (slotSize ≤ 256) × (s % 256 ≡ 255 → 4 + 255 * slotSize ≤ at)
-    select-ready = next-ready (look-lies (k .look) l) h (omega arith) (k .look .here)
+    select-ready = next-ready (look-lies (k .look) h) r (omega arith) (k .look .here)
 
   pub select-low : count ≤ s
   select-low = omega (arith, k .counted, sel-length test s)
 
-  -- the slot passes or does not
-  module _ (l : s < 256 * n) {at′ : ℕ} (next : at′ ≡ slotAt m (s + 1)) where
-    pub select-yes : test s ≡ true → Selecting m used n test at′ (s + 1) (count + 1)
-    select-yes e = record { look = look-on (k .look) l refl refl next; counted = rw (sel-yes test s e, length-append, ← k .counted) }
+  pub select-length : length l ≡ length l₀
+  select-length = ap length (k .stored) ∙ length-sets l₀ 0 (sel test s)
 
-    pub select-no : test s ≡ false → Selecting m used n test at′ (s + 1) count
-    select-no e = record { look = look-on (k .look) l refl refl next; counted = rw (sel-no test s e) (k .counted) }
-
-  -- every slot was looked at
-  pub select-all : 256 * n ≤ s → s ≡ 256 * n
-  select-all h = omega (arith, k .look .upto)
-
-  pub select-end : 256 * n ≤ s → count ≡ length (slotsFor test n)
-  unfolding slotsFor
-  select-end h = rw (← select-all h) (k .counted)
-
-module _ {m : List ℕ} {used n : ℕ} {test : ℕ → Bool} {l₀ l : List ℕ} {at s count : ℕ} (k : Listing m used n test l₀ l at s count) where
-  pub list-length : length l ≡ length l₀
-  list-length = ap length (k .stored) ∙ length-sets l₀ 0 (sel test s)
-
-  -- the number of a slot that passes goes to entry `count`
-  pub list-room : s < 256 * n → test s ≡ true → length (slotsFor test n) ≤ length l₀ → count < length l
-  unfolding slotsFor
-  list-room h e room = omega (arith, k .select .counted, sel-less test s (256 * n) h e, list-length)
-
+  -- a turn: the slot passes or not, and its number goes to entry `count` or nowhere
   module _ (h : s < 256 * n) {at′ : ℕ} (next : at′ ≡ slotAt m (s + 1)) where
-    pub list-yes : test s ≡ true → Listing m used n test l₀ (set l count s) at′ (s + 1) (count + 1)
-    list-yes e =
+    yes : test s ≡ true → Selecting m used n test l₀ (set l count s) at′ (s + 1) (count + 1)
+    yes e =
         record {
-          select = select-yes (k .select) h next e;
-          stored = rw (k .stored, sel-yes test s e) (sets-snoc (sel test s) l₀ 0 count s (omega (arith, k .select .counted)));
+          look = look-on (k .look) h refl refl next;
+          counted = rw (sel-yes test s e, length-append, ← k .counted);
+          stored = rw (k .stored, sel-yes test s e) (sets-snoc (sel test s) l₀ 0 count s (omega (arith, k .counted)));
         }
 
-    pub list-no : test s ≡ false → Listing m used n test l₀ l at′ (s + 1) count
-    list-no e = record { select = select-no (k .select) h next e; stored = rw (sel-no test s e) (k .stored) }
+    no : test s ≡ false → Selecting m used n test l₀ l at′ (s + 1) count
+    no e =
+        record {
+          look = look-on (k .look) h refl refl next;
+          counted = rw (sel-no test s e) (k .counted);
+          stored = rw (sel-no test s e) (k .stored);
+        }
 
-  pub list-end : 256 * n ≤ s → l ≡ sets l₀ 0 (slotsFor test n)
+    pub select-stored : (hit : Bool) → test s ≡ hit → hit && ltb count (length l) ≡ true → Selecting m used n test l₀ (set l count s) at′ (s + 1) (count + boolByte hit)
+    select-stored true e f = yes e
+    select-stored false e f = absurd (never (sym f))
+
+    pub select-passed : (hit : Bool) → test s ≡ hit → hit && ltb count (length l) ≡ false → Selecting m used n test l₀ l at′ (s + 1) (count + boolByte hit)
+    select-passed true e f = rw (set-out l count s (ltb-false count (length l) f)) at (yes e)
+    select-passed false e f = rw add-zero (no e)
+
+  -- every slot was looked at
+  pub select-end : 256 * n ≤ s → (count ≡ length (slotsFor test n)) × (l ≡ sets l₀ 0 (slotsFor test n))
   unfolding slotsFor
-  list-end h = rw (← select-all (k .select) h) (k .stored)
+  select-end h =
+      let e : s ≡ 256 * n = omega (arith, k .look .upto) in
+      rw (← e) (k .counted, k .stored)

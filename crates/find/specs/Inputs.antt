@@ -1,5 +1,4 @@
 -- The search program's input: a window, four 32-bit numbers, and behind it a map of at most 65,536 bytes.
---     windowOf i            the window: left, bottom, right, top, signed
 --     inputGood i           whether the window is whole and the map not longer than that
 --     inputAnswer i room    what is answered: 1 where the input is not good, else the search's answer
 --     inputList i l         what the lent list holds afterwards
@@ -8,27 +7,14 @@ use mathlib.Core.Bool.{Bool, cond, _&&_}
 use mathlib.Core.List.{List}
 use lib.Dec.{leb}
 use lib.ListN.{length, drop}
-use Rattle.numbers.specs.Bytes.{u32At}
-use Rattle.numbers.specs.Coordinates.{signed32}
-use Rattle.records.specs.declared.Window.{Window}
+use Rattle.records.specs.Sizes.{windowSize}
+use Rattle.records.specs.Windows.{windowOf}
 use Rattle.find.specs.declared.Answer.{Answer}
 use Rattle.find.specs.declared.Answer.the-variants.{Refused}
 use Rattle.find.specs.Searches.{answerOf, listAfter}
 
-abbrev pub windowSize : ℕ
-windowSize = 16
-
 abbrev pub programLimit : ℕ
 programLimit = 65536
-
-unfoldable pub windowOf : List ℕ → Window
-windowOf i =
-    record {
-      left = signed32 (u32At i 0);
-      bottom = signed32 (u32At i 4);
-      right = signed32 (u32At i 8);
-      top = signed32 (u32At i 12);
-    }
 
 unfoldable pub inputGood : List ℕ → Bool
 inputGood i = leb windowSize (length i) && leb (length i) (windowSize + programLimit)

@@ -1,7 +1,6 @@
-// The search by rectangle: count, then list.
+// The search by rectangle: one loop over the slots, which counts and lists.
 use accept::Verdict;
 use chain::next_cell;
-use numbers::signed32_of;
 use numbers::u32_at;
 use records::Header;
 use records::Slot;
@@ -9,6 +8,7 @@ use records::State;
 use records::Window;
 use records::meets_window;
 use records::read_slot;
+use records::same_state;
 use records::window_good;
 ghost use mathlib.Core.Path.{_≡_};
 ghost use Prim.Native.Nat.{ℕ, _+_, _*_, _≤_, _<_};
@@ -18,8 +18,8 @@ ghost use Rattle.records.specs.Sizes.{headerSize, slotSize, mapLimit};
 ghost use Rattle.chain.specs.Chains.{walked};
 ghost use Rattle.chain.specs.declared.Walk.the-variants.{Blocks};
 ghost use Rattle.accept.specs.Rules.{indexRule};
-ghost use Rattle.find.specs.Searches.{numberOf, placeOf, countOf, blocksOf, checkedLength, wantedAt, found, answerOf, listAfter};
-ghost use Rattle.find.specs.Inputs.{windowSize, windowOf, inputAnswer, inputList};
+ghost use Rattle.find.specs.Searches.{numberOf, placeOf, countOf, blocksOf, checkedLength, wantedAt, selected, answerOf, listAfter};
+ghost use Rattle.find.specs.Inputs.{inputAnswer, inputList};
 
 // What a search answers: the count found and the blocks walked; or the count that the list is too short for; or a refusal.
 pub enum Answer {
@@ -100,57 +100,45 @@ pub fn checked_length(m: &[u8], used: usize) -> usize
     used
 }
 
-// Whether the slot at a place is live and its rectangle meets the window.
-fn wanted(m: &[u8], at: usize, w: Window) -> bool
+// Whether the slot at a place is in a state and its rectangle meets the window. Both tests are made, with no branch between them.
+fn wanted(m: &[u8], at: usize, state: State, w: Window) -> bool
     requires { ⌜ at + slotSize ≤ length (now m) ⌝ }
-    ensures { λ r. ⌜ r ≡ wantedAt (now (m .entry)) w at ⌝ }
+    ensures { λ r. ⌜ r ≡ wantedAt (now (m .entry)) state w at ⌝ }
 {
     let found = read_slot(m, at);
-    let state = found.state;
-    match state {
-        State::Free => false,
-        State::Erased => false,
-        State::Live => {
-            let t = found.slot;
-            meets_window(t, w)
-        }
-    }
+    let t = found.slot;
+    let k = found.state;
+    same_state(state, k) & meets_window(t, w)
 }
 
-// How many slots of an accepted map's n index blocks the search finds.
-pub fn count_slots(m: &[u8], used: usize, n: usize, w: Window) -> usize
+// The slots of an accepted map's n index blocks that are in a state and meet the window: their numbers go to the list as far as there is room, and all of them
+// are counted.
+fn select_slots(m: &[u8], used: usize, n: usize, state: State, w: Window, list: &mut [u32]) -> usize
     requires { ⌜ (headerSize ≤ used) × (used ≤ mapLimit) × (used ≤ length (now m)) × (walked (indexRule (now m)) (now m) used ≡ Blocks n) ⌝ }
-    ensures { λ r. ⌜ r ≡ length (found (now (m .entry)) n w) ⌝ }
+    ensures { λ r. ⌜ (r ≡ length (selected (now (m .entry)) n state w)) × (now (list .exit) ≡ sets (now (list .entry)) 0 (selected (now (m .entry)) n state w)) ⌝ }
 {
     let mut at = u32_at(m, Header::INDEX) as usize + 4;
     let mut s = 0;
     let mut count = 0;
     while s < 256 * n {
-        if wanted(m, at, w) {
-            count += 1;
+        let hit = wanted(m, at, state, w);
+        if hit & (count < list.len()) {
+            list[count] = s as u32;
         }
+        count += hit as usize;
         at = next_cell(m, at, s, Slot::SIZE);
         s += 1;
     }
     count
 }
 
-// Their numbers, in the first entries of a list that has room for them.
-fn list_slots(m: &[u8], used: usize, n: usize, w: Window, list: &mut [u32])
-    requires { ⌜ (headerSize ≤ used) × (used ≤ mapLimit) × (used ≤ length (now m)) × (walked (indexRule (now m)) (now m) used ≡ Blocks n) × (length (found (now m) n w) ≤ length (now list)) ⌝ }
-    ensures { λ r. ⌜ now (list .exit) ≡ sets (now (list .entry)) 0 (found (now (m .entry)) n w) ⌝ }
+// How many of them there are: the same loop, on a list with no entry.
+pub fn count_slots(m: &[u8], used: usize, n: usize, state: State, w: Window) -> usize
+    requires { ⌜ (headerSize ≤ used) × (used ≤ mapLimit) × (used ≤ length (now m)) × (walked (indexRule (now m)) (now m) used ≡ Blocks n) ⌝ }
+    ensures { λ r. ⌜ r ≡ length (selected (now (m .entry)) n state w) ⌝ }
 {
-    let mut at = u32_at(m, Header::INDEX) as usize + 4;
-    let mut s = 0;
-    let mut filled = 0;
-    while s < 256 * n {
-        if wanted(m, at, w) {
-            list[filled] = s as u32;
-            filled += 1;
-        }
-        at = next_cell(m, at, s, Slot::SIZE);
-        s += 1;
-    }
+    let mut none = [0u32; 0];
+    select_slots(m, used, n, state, w, &mut none)
 }
 
 // The search. Any slice, any `used`, any window, any list.
@@ -167,51 +155,44 @@ pub fn search(m: &[u8], used: usize, w: Window, list: &mut [u32]) -> Answer
                     place: 0,
                 };
             }
-            let needed = count_slots(m, used, blocks, w);
-            if list.len() < needed {
-                return Answer::Short {
-                    count: needed as u32,
-                };
+            // A 9 leaves the list as it was, so a list that may be too short is not written to before the slots are counted.
+            if list.len() < 256 * blocks {
+                let needed = count_slots(m, used, blocks, State::Live, w);
+                if list.len() < needed {
+                    return Answer::Short {
+                        count: needed as u32,
+                    };
+                }
             }
-            list_slots(m, used, blocks, w, list);
+            let count = select_slots(m, used, blocks, State::Live, w, list);
             Answer::Found {
-                count: needed as u32,
+                count: count as u32,
                 blocks: blocks as u32,
             }
         }
     }
 }
 
-// The window that starts the search program's input.
-fn window_of(input: &[u8]) -> Window
-    requires { ⌜ windowSize ≤ length (now input) ⌝ }
-    ensures { λ r. ⌜ r ≡ windowOf (now (input .entry)) ⌝ }
-{
-    Window {
-        left: signed32_of(u32_at(input, 0)),
-        bottom: signed32_of(u32_at(input, 4)),
-        right: signed32_of(u32_at(input, 8)),
-        top: signed32_of(u32_at(input, 12)),
-    }
-}
+// The search program takes a map of at most so many bytes.
+pub const PROGRAM_LIMIT: usize = 65536;
 
-// The search on the program's input: a window, then a map of at most 65,536 bytes.
+// The search on the program's input: a window, then a map.
 pub fn search_input(input: &[u8], list: &mut [u32]) -> Answer
     ensures { λ r. ⌜ (r ≡ inputAnswer (now (input .entry)) (length (now (list .entry)))) × (now (list .exit) ≡ inputList (now (input .entry)) (now (list .entry))) ⌝ }
 {
-    if input.len() < 16 {
+    if input.len() < Window::SIZE {
         return Answer::Refused {
             number: 1,
             place: 0,
         };
     }
-    if 65552 < input.len() {
+    let used = input.len() - Window::SIZE;
+    if PROGRAM_LIMIT < used {
         return Answer::Refused {
             number: 1,
             place: 0,
         };
     }
-    let w = window_of(input);
-    let used = input.len() - 16;
-    search(&input[16..], used, w, list)
+    let w = Window::of(input);
+    search(&input[Window::SIZE..], used, w, list)
 }

@@ -9,13 +9,14 @@ use native.Mathlib.Nat.{zero-add, mod-lt, div-add-mod', suc-mul}
 use native.Mathlib.Omega.{arith}
 use lib.Dec.{ltb, leb}
 use lib.IntN.{ℤ, pos, negsuc, _+ℤ_, _-ℤ_, _*ℤ_}
-use lib.Signed.{leZ, shrZ, mag-shr}
+use lib.Signed.{leZ, mag, shrZ, mag-shr}
 use mir.Syntax.{w32}
-use mir.Val.{toZ, sel, SFits}
+use mir.Val.{hbits, toZ, ofZ, sel, SFits}
 use mir.ValLaws.{sfits-le}
-use mir.Facts.{sfits-toZ}
+use mir.Facts.{toZ-ofZ, sfits-toZ}
+use borrow.Author.Needs.{sfits-of}
 use borrow.Author.Tests.{lt-ltb, le-ltb, le-leb, lt-leb, leb-true, leb-false, ltb-true, ltb-false}
-use Rattle.numbers.specs.Coordinates.{signed, signed16, signed32, floorDiv, valueOf, unmarked, key, signFlipped}
+use Rattle.numbers.specs.Coordinates.{signed, signed16, signed32, floorDiv, valueOf, unmarked, signFlipped}
 
 -- a number is below a bound, or it is not
 pub lt-or-ge : (n m : ℕ) → (n < m) ⊎ (m ≤ n)
@@ -46,6 +47,10 @@ signed-toZ n =
     let e : 4294967295 - n ≡ 4294967296 - suc n = omega arith in
     rw e (cond-sel (ltb n 2147483648) (pos n) (negsuc (4294967296 - suc n)))
 
+-- a signed result, read back from its bits
+pub read-back : {z y : ℤ} → mag z < 2 ^ hbits w32 → z ≡ y → toZ w32 (ofZ w32 z) ≡ y
+read-back f e = toZ-ofZ {w = w32} (sfits-of {w = w32} f) ∙ e
+
 -- -1 less m
 pub minus-one-less : (m : ℕ) → negsuc 0 -ℤ pos m ≡ negsuc m
 minus-one-less zero = refl
@@ -75,7 +80,16 @@ pub value-fits : (n : ℕ) → n < 2 ^ 32 → SFits w32 (valueOf n)
 unfolding valueOf
 value-fits n h = rw (← floor-shr (signed32 n) 256) (sfits-le (mag-shr (signed32 n) 256) (signed-fits n h))
 
--- ---- keys
+-- the signed number, held by the machine and shifted by 8, is the value
+pub shift-value : {z : ℤ} (n : ℕ) → n < 2 ^ 32 → mag z < 2 ^ hbits w32 → z ≡ signed32 n → toZ w32 (ofZ w32 (shrZ (toZ w32 (ofZ w32 z)) 256)) ≡ valueOf n
+unfolding valueOf
+shift-value n h f e = rw (read-back f e, floor-shr (signed32 n) 256) (toZ-ofZ (value-fits n h))
+
+-- ---- keys: the key of z is z + 2147483648, which is never negative, so that `omega` decides
+
+abbrev pub key : ℤ → ℕ
+key (pos n) = 2147483648 + n
+key (negsuc n) = 2147483647 - n
 
 leb-same : (a b c d : ℕ) → (a ≤ b → c ≤ d) → (b < a → d < c) → leb a b ≡ leb c d
 leb-same a b c d f g = go (leb a b) refl
@@ -95,17 +109,6 @@ leZ-key (negsuc a) (negsuc b) f g =
 -- the same for two raw coordinates
 pub leZ-value : (a b : ℕ) → a < 2 ^ 32 → b < 2 ^ 32 → leZ (valueOf a) (valueOf b) ≡ leb (key (valueOf a)) (key (valueOf b))
 leZ-value a b f g = leZ-key (valueOf a) (valueOf b) (value-fits a f) (value-fits b g)
-
-pub key-lt : (z : ℤ) → SFits w32 z → key z < 2 ^ 32
-key-lt (pos n) f = omega (arith, f .sfits)
-key-lt (negsuc n) f = omega arith
-
--- a signed number is made a key by a sum
-pub key-sum : (z : ℤ) → SFits w32 z → z +ℤ pos 2147483648 ≡ pos (key z)
-key-sum (pos n) f = let e : n + 2147483648 ≡ 2147483648 + n = omega arith in rw e
-key-sum (negsuc n) f =
-    let e : 2147483648 - suc n ≡ 2147483647 - n = omega arith in
-    rw (le-ltb 2147483648 (suc n) (omega (arith, f .sfits)), e)
 
 -- the key of a signed number is its bits with the sign bit flipped
 flipped-key : (n : ℕ) → n < 2 ^ 32 → signFlipped n ≡ key (signed32 n)

@@ -5,7 +5,6 @@
 --     valueOf raw       the value of a raw coordinate in 0.01 mm: the signed number divided by 256 and rounded down
 --     unmarked raw      the raw coordinate with its low 8 bits, the marks, zero
 --     signFlipped n     the 32 bits of n with the sign bit flipped
---     key z             z + 2147483648, a number that is never negative: keys are ordered as the signed numbers are
 use Prim.Native.Nat.{ℕ, _+_, _-_, _*_, _/_, _%_}
 use mathlib.Core.Bool.{cond}
 use lib.Dec.{ltb}
@@ -32,7 +31,3 @@ unmarked raw = raw / 256 * 256
 
 abbrev pub signFlipped : ℕ → ℕ
 signFlipped n = (n + 2147483648) % 4294967296
-
-abbrev pub key : ℤ → ℕ
-key (pos n) = 2147483648 + n
-key (negsuc n) = 2147483647 - n

@@ -5,7 +5,7 @@ ghost use lib.ListN.{length, replicate};
 ghost use lib.Seq.{sets};
 ghost use lib.Signed.{leZ};
 ghost use Rattle.numbers.specs.Bytes.{u16At, u32At, bytesOf, sameBytes};
-ghost use Rattle.numbers.specs.Coordinates.{signed16, signed32, valueOf, unmarked, key, signFlipped};
+ghost use Rattle.numbers.specs.Coordinates.{signed16, signed32, valueOf, unmarked, signFlipped};
 ghost use Rattle.numbers.specs.Ranges.{share};
 
 // ---- little-endian numbers
@@ -84,18 +84,25 @@ pub fn signed_at_most(a: u32, b: u32) -> bool
     flipped(a) <= flipped(b)
 }
 
-// The key of a raw coordinate's value, with no branch: the sign bit is flipped and the marks are dropped.
-pub fn key_of_raw(raw: u32) -> u32
-    ensures { λ r. ⌜ r ≡ key (valueOf raw) ⌝ }
+// The value of a raw coordinate: the shift drops the marks and rounds down.
+pub fn value_of(raw: u32) -> i32
+    ensures { λ r. ⌜ r ≡ valueOf raw ⌝ }
 {
-    2139095040 + flipped(raw) / 256
+    signed32_of(raw) >> 8
 }
 
-// The key of a value.
-pub fn key_of_value(z: i32) -> u32
-    ensures { λ r. ⌜ r ≡ key z ⌝ }
+// Whether a raw coordinate's value is at most a number.
+pub fn value_at_most(raw: u32, z: i32) -> bool
+    ensures { λ r. ⌜ r ≡ leZ (valueOf raw) z ⌝ }
 {
-    (z as i64 + 2147483648) as u32
+    value_of(raw) <= z
+}
+
+// Whether a raw coordinate's value is at least a number.
+pub fn value_at_least(raw: u32, z: i32) -> bool
+    ensures { λ r. ⌜ r ≡ leZ z (valueOf raw) ⌝ }
+{
+    z <= value_of(raw)
 }
 
 // Whether one raw coordinate is at most another, by value. The marks of b never decide, so they are left in.
@@ -132,6 +139,14 @@ pub fn signed32_of(n: u32) -> i32
     } else {
         -1 - ((4294967295 - n) as i32)
     }
+}
+
+// The signed thirty-two-bit number at a place.
+pub fn i32_at(s: &[u8], at: usize) -> i32
+    requires { ⌜ at + 4 ≤ length (now s) ⌝ }
+    ensures { λ r. ⌜ r ≡ signed32 (u32At (now (s .entry)) at) ⌝ }
+{
+    signed32_of(u32_at(s, at))
 }
 
 // ---- ranges

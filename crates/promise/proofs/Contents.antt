@@ -16,7 +16,7 @@ use Rattle.numbers.proofs.Coordinates.{lt-or-ge}
 use Rattle.records.specs.declared.Slot.{Slot}
 use Rattle.records.specs.declared.State.{State}
 use Rattle.records.specs.declared.State.the-variants.{Free, Erased, Live}
-use Rattle.records.specs.Slots.{slotOf, stateOf, bytesIn, lenOf}
+use Rattle.records.specs.Slots.{slotOf, stateOf, sameState, bytesIn, lenOf}
 use Rattle.records.specs.Objects.{objectOf}
 use Rattle.accept.specs.Rules.{slotAt, touches}
 use Rattle.accept.specs.Judging.{versionOf, isLive, slotGood, headerFits}
@@ -24,7 +24,7 @@ use Rattle.accept.specs.Verdicts.{verdict}
 use Rattle.accept.proofs.Accepting.{Holds}
 use Rattle.accept.proofs.Telling.{and-true, GoodSlot, slot-tells, bad-tells}
 use Rattle.accept.proofs.Frame.{Change, touch-part, version-same}
-use Rattle.edit.specs.Slots.{slotIn, sameState, hasState, resym, withSym, objectSym, isAccepted, canReinstate}
+use Rattle.edit.specs.Slots.{slotIn, hasState, resym, withSym, objectSym, isAccepted, canReinstate}
 use Rattle.edit.specs.Objects.{pairsIn, slotFor, offeredGood}
 use Rattle.edit.specs.Edits.{slotAdded}
 use Rattle.edit.proofs.Syms.{has-tells, same-live, state-live, state-unmarked, state-empty, len-some, accepted-good}

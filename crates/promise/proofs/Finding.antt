@@ -6,13 +6,13 @@ use mathlib.Core.Logic.{_↔_, ⊎-elim}
 use mathlib.Core.List.{List}
 use lib.ListN.{length, drop}
 use lib.Seq.{take-append-seam}
+use borrow.Author.Tests.{lt-ltb}
 use Rattle.numbers.proofs.Coordinates.{lt-or-ge}
 use Rattle.records.specs.declared.Window.{Window}
 use Rattle.records.specs.declared.State.the-variants.{Live}
-use Rattle.records.specs.Slots.{slotOf, stateOf}
+use Rattle.records.specs.Slots.{slotOf, stateOf, sameState}
 use Rattle.records.specs.Windows.{meetsWindow}
 use Rattle.accept.specs.Rules.{slotAt}
-use Rattle.accept.specs.Judging.{isLive}
 use Rattle.find.specs.declared.Answer.{Answer}
 use Rattle.find.specs.Searches.{wantedAt, found, answerOf, listFor, listAfter, In}
 use Rattle.find.proofs.Searches.{in-list, ascending, answer-window, answer-short, answer-found, answers, list-found}
@@ -20,23 +20,22 @@ use Rattle.edit.specs.Slots.{slotIn, hasState}
 use Rattle.edit.proofs.Syms.{has-tells}
 use Rattle.promise.specs.Runs.{Call, add, searched, step, isLiveIn, contentOf}
 use Rattle.promise.specs.Promises.{ByOne, SearchSays, SearchFinds, AddedIsFound}
-use Rattle.promise.proofs.Contents.{has-live}
 use Rattle.promise.proofs.Keeping.{step-good}
 use Rattle.promise.proofs.Promises.{blocks-of}
 use Rattle.promise.proofs.Bridge.{edit-by-edit}
 
 found-is : (m : List ℕ) (n : ℕ) (w : Window) (s : ℕ) → In s (found m n w) ↔ ((hasState Live m n s ≡ true) × (meetsWindow (slotIn m s) w ≡ true))
-unfolding slotIn wantedAt
+unfolding slotIn hasState wantedAt
 found-is m n w s =
-    let live : Bool = isLive (stateOf (slotOf m (slotAt m s))) in
+    let live : Bool = sameState Live (stateOf (slotOf m (slotAt m s))) in
     let meets : Bool = meetsWindow (slotOf m (slotAt m s)) w in (
       λ h.
           let a = in-list m n w s .0 h in
           let b = and-eq-true-iff live meets .0 (a .1) in
-          (has-live m n s (a .0) ∙ b .0, b .1),
+          (rw (lt-ltb s (256 * n) (a .0)) (b .0), b .1),
       λ h.
-          let l : s < 256 * n = has-tells Live m n s (h .0) .0 in
-          in-list m n w s .1 (l, and-eq-true-iff live meets .1 (sym (has-live m n s l) ∙ h .0, h .1)),
+          let a = has-tells Live m n s (h .0) in
+          in-list m n w s .1 (a .0, and-eq-true-iff live meets .1 (a .1, h .1)),
     )
 
 -- what a search says, by its answer

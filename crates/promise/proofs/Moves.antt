@@ -18,7 +18,7 @@ use Rattle.numbers.proofs.Coordinates.{lt-or-ge}
 use Rattle.records.specs.declared.Slot.{Slot}
 use Rattle.records.specs.declared.State.{State}
 use Rattle.records.specs.declared.State.the-variants.{Free, Erased, Live}
-use Rattle.records.specs.Slots.{slotOf, stateOf, lenOf}
+use Rattle.records.specs.Slots.{slotOf, stateOf, sameState, lenOf}
 use Rattle.accept.specs.declared.Verdict.{Verdict}
 use Rattle.accept.specs.declared.Verdict.the-variants as verdicts
 use Rattle.accept.specs.Rules.{slotAt, touches}
@@ -29,7 +29,7 @@ use Rattle.accept.proofs.Telling.{and-true}
 use Rattle.accept.proofs.Frame.{Change}
 use Rattle.journal.specs.Journals.{slotUsed}
 use Rattle.journal.proofs.Journals.{KeepsUse}
-use Rattle.edit.specs.Slots.{slotIn, sameState, hasState, resym, withSym, objectSym, isAccepted, canReinstate, allowedFor, symFor, freeSlot}
+use Rattle.edit.specs.Slots.{slotIn, hasState, resym, withSym, objectSym, isAccepted, canReinstate, allowedFor, symFor, freeSlot}
 use Rattle.edit.specs.Objects.{pairsIn, slotFor, offeredGood}
 use Rattle.edit.specs.Edits.{isFree, slotAdded, inFree, inBlock, newLength, addedMap}
 use Rattle.edit.proofs.Syms.{has-tells, len-some, sym-change, sym-place, sym-other, sym-slot, sym-holds}

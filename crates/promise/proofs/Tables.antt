@@ -14,7 +14,7 @@ use Rattle.numbers.proofs.Below.{first-is, never}
 use Rattle.records.specs.declared.Slot.{Slot}
 use Rattle.records.specs.declared.State.the-variants.{Free, Live}
 use Rattle.records.specs.Headers.{headerOf, pairGood}
-use Rattle.records.specs.Slots.{stateOf, lenOf}
+use Rattle.records.specs.Slots.{stateOf, sameState, lenOf}
 use Rattle.records.specs.Objects.{objectOf, typeGood, xOf, yOf, coverTo, withoutMarks, rectangleOf}
 use Rattle.records.specs.Windows.{meetsWindow}
 use Rattle.chain.specs.Chains.{place, block, meetsBlock, badLink, stops, taken, walked}
@@ -22,7 +22,7 @@ use Rattle.accept.specs.declared.Verdict.the-variants.{Accepted}
 use Rattle.accept.specs.Judging.{versionOf, lengthGood, partGood}
 use Rattle.accept.specs.Verdicts.{cellsJudged, fieldsJudged, headerJudged, entriesJudged, symbolsJudged, slotsJudged, afterIndex, verdict}
 use Rattle.accept.proofs.Accepting.{accepted-tells}
-use Rattle.edit.specs.Slots.{slotIn, sameState, freeSlot}
+use Rattle.edit.specs.Slots.{slotIn, freeSlot}
 use Rattle.edit.specs.Objects.{offeredGood, slotFor}
 use Rattle.edit.specs.Edits.{isFree, newLength, addedMap}
 use Rattle.edit.proofs.Adds.{Grown}

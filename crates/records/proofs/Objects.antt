@@ -10,9 +10,9 @@ use lib.Dec.{leb}
 use lib.Signed.{leZ}
 use borrow.Author.Tests.{le-leb, lt-leb, leb-true, leb-false}
 use Rattle.numbers.specs.Bytes.{Bytes}
-use Rattle.numbers.specs.Coordinates.{valueOf, unmarked, key}
+use Rattle.numbers.specs.Coordinates.{valueOf, unmarked}
 use Rattle.numbers.proofs.Bytes.{leAt-lt}
-use Rattle.numbers.proofs.Coordinates.{leZ-value, unmarked-value, unmarked-twice}
+use Rattle.numbers.proofs.Coordinates.{key, leZ-value, unmarked-value, unmarked-twice}
 use Rattle.records.specs.declared.Rectangle.{Rectangle}
 use Rattle.records.specs.Objects.{xOf, yOf, lesserOf, greaterOf, pointAt, joined, coverTo, rectangleOf, withoutMarks}
 

@@ -1,18 +1,16 @@
--- The laws of windows: the test over keys, where `omega` decides, and document 01's two windows. Assumes nothing.
-use Prim.Native.Nat.{ℕ, _^_, _<_, _≤_}
-use mathlib.Core.Bool.{Bool, true, false, _&&_}
-use mathlib.Core.Path.{_≡_, refl}
-use lib.Dec.{leb}
+-- The laws of windows: that the sides fit, the four tests of a rectangle, and document 01's two windows. Assumes nothing.
+use Prim.Native.Nat.{ℕ}
+use mathlib.Core.Bool.{Bool, true, false, _&&_, and-assoc}
+use mathlib.Core.Path.{_≡_, refl, _∙_}
 use lib.IntN.{ℤ, pos}
+use lib.Signed.{leZ}
 use mir.Syntax.{w32}
-use mir.Val.{SFits}
-use borrow.Author.Tests.{lt-leb, le-leb}
-use Rattle.numbers.specs.Coordinates.{signed, valueOf, key}
-use Rattle.numbers.proofs.Coordinates.{leZ-key, value-fits}
+use mir.Val.{toZ, ofZ, SFits}
+use mir.Facts.{toZ-ofZ}
+use Rattle.numbers.specs.Coordinates.{signed, valueOf}
 use Rattle.records.specs.declared.Slot.{Slot}
 use Rattle.records.specs.declared.Window.{Window}
 use Rattle.records.specs.Windows.{meetsWindow}
-use Rattle.records.proofs.Slots.{SlotFits}
 
 -- each side is a number of 32 bits
 pub record WindowFits (w : Window) : Type 0 where
@@ -21,34 +19,19 @@ pub record WindowFits (w : Window) : Type 0 where
   pub right : SFits w32 (w .right)
   pub top : SFits w32 (w .top)
 
-module _ {t : Slot} {w : Window} (f : SlotFits t) (g : WindowFits w) where
-  keys : meetsWindow t w
-      ≡ leb (key (valueOf (t .left))) (key (w .right))
-      && (leb (key (w .left)) (key (valueOf (t .right)))
-      && (leb (key (valueOf (t .bottom))) (key (w .top)) && leb (key (w .bottom)) (key (valueOf (t .top)))))
-  unfolding meetsWindow
-  keys =
-      rw (
-        leZ-key (valueOf (t .left)) (w .right) (value-fits (t .left) (f .left)) (g .right),
-        leZ-key (w .left) (valueOf (t .right)) (g .left) (value-fits (t .right) (f .right)),
-        leZ-key (valueOf (t .bottom)) (w .top) (value-fits (t .bottom) (f .bottom)) (g .top),
-        leZ-key (w .bottom) (valueOf (t .top)) (g .bottom) (value-fits (t .top) (f .top)),
-      )
+-- a side as the machine holds it
+abbrev held : ℤ → ℤ
+held z = toZ w32 (ofZ w32 z)
 
-  -- the test in its cases, side by side
-  pub right-of : key (w .right) < key (valueOf (t .left)) → meetsWindow t w ≡ false
-  right-of a = rw (keys, lt-leb _ _ a)
-
-  module _ (a : key (valueOf (t .left)) ≤ key (w .right)) where
-    pub left-of : key (valueOf (t .right)) < key (w .left) → meetsWindow t w ≡ false
-    left-of b = rw (keys, le-leb _ _ a, lt-leb _ _ b)
-
-    module _ (b : key (w .left) ≤ key (valueOf (t .right))) where
-      pub above : key (w .top) < key (valueOf (t .bottom)) → meetsWindow t w ≡ false
-      above c = rw (keys, le-leb _ _ a, le-leb _ _ b, lt-leb _ _ c)
-
-      pub not-above : key (valueOf (t .bottom)) ≤ key (w .top) → meetsWindow t w ≡ leb (key (w .bottom)) (key (valueOf (t .top)))
-      not-above c = rw (keys, le-leb _ _ a, le-leb _ _ b, le-leb _ _ c)
+-- four tests, joined
+pub four : (t : Slot) {w : Window} → WindowFits w → {left right bottom top : Bool} → left ≡ leZ (valueOf (t .left)) (held (w .right)) → right ≡ leZ (held (w .left)) (valueOf (t .right)) → bottom ≡ leZ (valueOf (t .bottom)) (held (w .top)) → top ≡ leZ (held (w .bottom)) (valueOf (t .top)) → left && right && bottom && top ≡ meetsWindow t w
+unfolding meetsWindow
+four t g {left} {right} {bottom} {top} l r b u =
+    let l′ = rw (toZ-ofZ (g .right)) at l in
+    let r′ = rw (toZ-ofZ (g .left)) at r in
+    let b′ = rw (toZ-ofZ (g .top)) at b in
+    let u′ = rw (toZ-ofZ (g .bottom)) at u in
+    rw (← l′, ← r′, ← b′, ← u′) (and-assoc (left && right) bottom top ∙ and-assoc left right (bottom && top))
 
 -- point (5, 5): found by 5..10 both ways, not by 6..10
 abbrev pub pointSlot : Slot

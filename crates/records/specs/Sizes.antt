@@ -37,6 +37,10 @@ objectHeaderSize = 32
 abbrev pub pairSize : ℕ
 pairSize = 8
 
+-- a window in a program's input: four numbers
+abbrev pub windowSize : ℕ
+windowSize = 16
+
 abbrev pub journalRecordSize : ℕ
 journalRecordSize = 16
 

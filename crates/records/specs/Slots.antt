@@ -2,6 +2,7 @@
 --     slotOf m p         the slot whose bytes stand from place p
 --     slotBytes t        its 24 bytes
 --     stateOf t          Len 0: free, whatever Sym is; Len not 0 and Sym 0: erased; both not 0: live
+--     sameState j k      whether two states are the same, by a number for each
 --     foundAt m p        what the slot reader answers: the fields, the state and the place
 --     lenGood v len      whether Len is one that version v allows: in 6 and 7 at least 40, and 32 less is a multiple of 8; in 8 at most 32,768
 --     pairsOf v len      the pair count of a slot: in 6 and 7 Len is the object's bytes; in 8 it counts pairs
@@ -37,6 +38,14 @@ slotBytes t =
 
 unfoldable pub stateOf : Slot → State
 stateOf t = cond (eqb (t .len) 0) Free (cond (eqb (t .sym) 0) Erased Live)
+
+abbrev pub stateNumber : State → ℕ
+stateNumber Free = 0
+stateNumber Erased = 1
+stateNumber Live = 2
+
+abbrev pub sameState : State → State → Bool
+sameState j k = eqb (stateNumber j) (stateNumber k)
 
 unfoldable pub foundAt : List ℕ → ℕ → Found
 foundAt m p = record { slot = slotOf m p; state = stateOf (slotOf m p); place = p }

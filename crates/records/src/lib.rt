@@ -1,12 +1,13 @@
 // A type for each kind of record in a map and in a journal: its size, its small constructor, its reader and its writer. Nothing here knows of chains or of
 // journals as a whole.
-use numbers::key_of_raw;
-use numbers::key_of_value;
+use numbers::i32_at;
 use numbers::put_u16_at;
 use numbers::put_u32_at;
 use numbers::signed_at_most;
 use numbers::u16_at;
 use numbers::u32_at;
+use numbers::value_at_least;
+use numbers::value_at_most;
 use numbers::without_marks;
 ghost use mathlib.Core.Path.{_≡_};
 ghost use mathlib.Core.Bool.{true};
@@ -15,11 +16,11 @@ ghost use lib.ListN.{length};
 ghost use lib.Seq.{sets};
 ghost use Rattle.numbers.specs.Bytes.{u16At};
 ghost use Rattle.numbers.specs.Coordinates.{unmarked};
-ghost use Rattle.records.specs.Sizes.{headerSize, slotSize, objectHeaderSize, pairSize, journalRecordSize};
+ghost use Rattle.records.specs.Sizes.{headerSize, slotSize, objectHeaderSize, pairSize, windowSize, journalRecordSize};
 ghost use Rattle.records.specs.Headers.{headerOf, partOf, pairGood};
-ghost use Rattle.records.specs.Slots.{slotOf, slotBytes, stateOf, foundAt, lenGood, pairsOf, bytesIn, lenOf};
+ghost use Rattle.records.specs.Slots.{slotOf, slotBytes, stateOf, stateNumber, sameState, foundAt, lenGood, pairsOf, bytesIn, lenOf};
 ghost use Rattle.records.specs.Objects.{objectOf, typeGood, xOf, yOf, lesserOf, greaterOf, pointAt, joined, withoutMarks, rectangleOf};
-ghost use Rattle.records.specs.Windows.{windowGood, meetsWindow};
+ghost use Rattle.records.specs.Windows.{windowOf, windowGood, meetsWindow};
 ghost use Rattle.records.specs.Symbols.{sizeGood};
 ghost use Rattle.records.specs.Journals.{recordOf, recordBytes, recordFor, shapeGood, isUnused};
 
@@ -155,6 +156,24 @@ pub enum State {
     Free,
     Erased,
     Live,
+}
+
+// A number for each state.
+fn state_number(k: State) -> u32
+    ensures { λ r. ⌜ r ≡ stateNumber k ⌝ }
+{
+    match k {
+        State::Free => 0,
+        State::Erased => 1,
+        State::Live => 2,
+    }
+}
+
+// Whether two states are the same.
+pub fn same_state(j: State, k: State) -> bool
+    ensures { λ r. ⌜ r ≡ sameState j k ⌝ }
+{
+    state_number(j) == state_number(k)
 }
 
 // A slot of an index block. Coordinates are raw; Sym is kept as its sixteen bits.
@@ -379,19 +398,19 @@ impl Rectangle {
     }
 }
 
-// The coordinates of pair i of the object that starts a part, marks zero.
-fn bare_x(part: &[u8], i: usize) -> u32
+// The raw coordinates of pair i of the object that starts a part.
+fn pair_x(part: &[u8], i: usize) -> u32
     requires { ⌜ (i ≤ 65535) × (objectHeaderSize + pairSize * i + pairSize ≤ length (now part)) ⌝ }
-    ensures { λ r. ⌜ r ≡ unmarked (xOf (now (part .entry)) i) ⌝ }
+    ensures { λ r. ⌜ r ≡ xOf (now (part .entry)) i ⌝ }
 {
-    without_marks(u32_at(part, ObjectHeader::SIZE + ObjectHeader::PAIR * i))
+    u32_at(part, ObjectHeader::SIZE + ObjectHeader::PAIR * i)
 }
 
-fn bare_y(part: &[u8], i: usize) -> u32
+fn pair_y(part: &[u8], i: usize) -> u32
     requires { ⌜ (i ≤ 65535) × (objectHeaderSize + pairSize * i + pairSize ≤ length (now part)) ⌝ }
-    ensures { λ r. ⌜ r ≡ unmarked (yOf (now (part .entry)) i) ⌝ }
+    ensures { λ r. ⌜ r ≡ yOf (now (part .entry)) i ⌝ }
 {
-    without_marks(u32_at(part, ObjectHeader::SIZE + ObjectHeader::PAIR * i + 4))
+    u32_at(part, ObjectHeader::SIZE + ObjectHeader::PAIR * i + 4)
 }
 
 // The least rectangle over the first pairs of the object that starts a part. The marks are dropped first: then each side is a signed least or greatest.
@@ -399,10 +418,16 @@ pub fn least_rectangle(part: &[u8], items: usize) -> Rectangle
     requires { ⌜ (1 ≤ items) × (items ≤ 65535) × (objectHeaderSize + pairSize * items ≤ length (now part)) ⌝ }
     ensures { λ r. ⌜ r ≡ rectangleOf (now (part .entry)) items ⌝ }
 {
-    let mut cover = Rectangle::point(bare_x(part, 0), bare_y(part, 0));
+    let mut cover = Rectangle::point(
+        without_marks(pair_x(part, 0)),
+        without_marks(pair_y(part, 0)),
+    );
     let mut i = 1;
     while i < items {
-        cover = cover.join(bare_x(part, i), bare_y(part, i));
+        cover = cover.join(
+            without_marks(pair_x(part, i)),
+            without_marks(pair_y(part, i)),
+        );
         i += 1;
     }
     cover
@@ -418,6 +443,24 @@ pub struct Window {
     pub top: i32,
 }
 
+impl Window {
+    // Four numbers, in a program's input.
+    pub const SIZE: usize = 16;
+
+    // The window that starts a part.
+    pub fn of(part: &[u8]) -> Window
+        requires { ⌜ windowSize ≤ length (now part) ⌝ }
+        ensures { λ r. ⌜ r ≡ windowOf (now (part .entry)) ⌝ }
+    {
+        Window {
+            left: i32_at(part, 0),
+            bottom: i32_at(part, 4),
+            right: i32_at(part, 8),
+            top: i32_at(part, 12),
+        }
+    }
+}
+
 // Whether left is at most right and bottom at most top.
 pub fn window_good(w: Window) -> bool
     ensures { λ r. ⌜ r ≡ windowGood w ⌝ }
@@ -429,20 +472,15 @@ pub fn window_good(w: Window) -> bool
     if left <= right { bottom <= top } else { false }
 }
 
-// Whether a slot's rectangle meets a window: by value, and touching counts.
+// Whether a slot's rectangle meets a window: by value, and touching counts. All four tests are made, since no branch on a coordinate can be foreseen.
 pub fn meets_window(t: Slot, w: Window) -> bool
     ensures { λ r. ⌜ r ≡ meetsWindow t w ⌝ }
 {
-    if key_of_value(w.right) < key_of_raw(t.left) {
-        return false;
-    }
-    if key_of_raw(t.right) < key_of_value(w.left) {
-        return false;
-    }
-    if key_of_value(w.top) < key_of_raw(t.bottom) {
-        return false;
-    }
-    key_of_value(w.bottom) <= key_of_raw(t.top)
+    let left = value_at_most(t.left, w.right);
+    let right = value_at_least(t.right, w.left);
+    let bottom = value_at_most(t.bottom, w.top);
+    let top = value_at_least(t.top, w.bottom);
+    left & right & bottom & top
 }
 
 // ---- symbol records

@@ -7,6 +7,7 @@ use numbers::u32_at;
 use records::Header;
 use records::IndexBlock;
 use records::Slot;
+use records::Window;
 ghost use Prim.Native.Nat.{_<_};
 
 // A word, a number and a newline.
@@ -86,8 +87,8 @@ fn write_answer(input: &[u8], list: &[u32], a: Answer) {
         Answer::Found { count, blocks } => {
             write_line(b"blocks ", blocks);
             write_line(b"found ", count);
-            if 16 <= input.len() {
-                write_slots(&input[16..], list, count as usize);
+            if Window::SIZE <= input.len() {
+                write_slots(&input[Window::SIZE..], list, count as usize);
             }
         }
         Answer::Short { count: _ } => write_line(b"refused 9 at ", 0),
@@ -99,11 +100,16 @@ fn write_answer(input: &[u8], list: &[u32], a: Answer) {
     }
 }
 
-// 16 bytes of window, 65,536 of map, and one more that tells a longer map. A map of 65,536 bytes has at most 10 index blocks, 2,560 slots.
+// A window, a map, and one byte more that tells a longer map.
+const INPUT: usize = Window::SIZE + find::PROGRAM_LIMIT + 1;
+
+// A map of 65,536 bytes has at most so many slots: 10 index blocks of 256.
+const SLOTS: usize = (find::PROGRAM_LIMIT - Header::SIZE) / IndexBlock::SIZE * 256;
+
 fn main() {
-    let mut input = [0u8; 65553];
+    let mut input = [0u8; INPUT];
     let n = io::read_full(STDIN_FILENO, &mut input);
-    let mut list = [0u32; 2560];
+    let mut list = [0u32; SLOTS];
     let a = find::search_input(&input[..n], &mut list);
     write_answer(&input[..n], &list, a);
 }

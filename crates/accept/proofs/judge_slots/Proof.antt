@@ -15,10 +15,10 @@ use Rattle.accept.specs.Judging.{versionOf, badSlot}
 use Rattle.numbers.specs.Below.{first}
 use borrow.Author.Tests.{le-ltb}
 use Rattle.records.specs.declared.State.the-variants.{Free}
-use Rattle.records.specs.Slots.{stateOf}
+use Rattle.records.specs.Slots.{stateOf, sameState}
 use Rattle.accept.specs.declared.Examined.the-variants.{Accepted}
 use Rattle.accept.specs.declared.Told.{Told}
-use Rattle.accept.specs.Slots.{slotIn, sameState, freeSlot, noLen, slotTold, isBad, firstFree}
+use Rattle.accept.specs.Slots.{slotIn, freeSlot, noLen, slotTold, isBad, firstFree}
 use Rattle.accept.proofs.Slots.{free-len, firstOr, or-all, told-bad, told-free}
 use Rattle.accept.specs.Verdicts.{slotsJudged}
 use Rattle.accept.proofs.Judging.{same-touch}

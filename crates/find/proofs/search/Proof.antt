@@ -3,6 +3,7 @@ use native.Mathlib.Omega.{arith}
 use Prim.Native.Nat.{_*_, _≤_}
 use mathlib.Core.Bool.{true}
 use mathlib.Core.Path.{_≡_, sym, _∙_}
+use mathlib.Core.Logic.{⊎-elim}
 use lib.ListN.{length}
 use denote.Ref.{now}
 use borrow.Author.Tests.{not-true, not-false}
@@ -11,7 +12,7 @@ use Rattle.accept.specs.declared.Verdict.the-variants.{Accepted}
 use Rattle.accept.specs.Verdicts.{verdict}
 use Rattle.accept.proofs.Accepting.{Holds, accepted-tells}
 use Rattle.accept.proofs.Writes.{pass-of}
-use Rattle.find.specs.Searches.{liveIn}
+use Rattle.find.specs.Searches.{liveIn, found}
 use Rattle.find.proofs.Selecting.{few-blocks, slots-low}
 use Rattle.find.proofs.Searches.{answer-refused, answer-window, answer-short, answer-found, answers}
 use borrow.Author.Needs.{needs}
@@ -26,15 +27,22 @@ holds : (c : tie.After-v2) → let a = c .before .before .before .before .before
 holds c = let a = c .before .before .before .before .before .args in accepted-tells (now (a .m)) (a .used) (c .v2 .given .0 .0) (accepted c)
 
 -- there are few blocks, and so few slots found
-few : (c : tie.After-count-slots) → let n = c .before .before .before .before .v2 .given .0 .0 in (n ≤ 2728) × (c .count-slots .result ≤ 256 * n)
+few : (c : tie.After-v2) → let a = c .before .before .before .before .before .args in let n = c .v2 .given .0 .0 in (n ≤ 2728) × (length (found (now (a .m)) n (a .w)) ≤ 256 * n)
 few c =
-    let v = c .before .before .before .before in
-    let a = v .before .before .before .before .before .args in
-    (few-blocks (pass-of (holds v)) (holds v .limit), omega (arith, c .count-slots .ensures, slots-low (liveIn (now (a .m)) (a .w)) (v .v2 .given .0 .0)))
+    let a = c .before .before .before .before .before .args in
+    (few-blocks (pass-of (holds c)) (holds c .limit), slots-low (liveIn (now (a .m)) (a .w)) (c .v2 .given .0 .0))
 
 -- the window is good
 good : (c : tie.Else1) → windowGood (c .before .before .before .before .before .before .before .before .args .w) ≡ true
 good c = sym (c .before .window-good .ensures) ∙ not-false _ (c .if1 .left)
+
+-- the list has room for the slots found: it was counted, or there is an entry for every slot
+room : (c : tie.Joined2) → let v = c .before .before .before .before in let a = v .before .before .before .before .before .args in length (found (now (a .m)) (v .v2 .given .0 .0) (a .w)) ≤ length (now (a .list))
+room c =
+    ⊎-elim
+    (λ y. omega (arith, y .1 .ensures, y .2 .left))
+    (λ y. omega (arith, few (c .before .before .before .before), y .left))
+    (c .if2 .came)
 
 returns : tie.Need-returns
 returns c =
@@ -44,21 +52,18 @@ returns c =
     (answer-window (now (a .m)) (a .used) (a .w) (length (now (a .list))) (accepted v) (sym (c .before .window-good .ensures) ∙ not-true _ (c .if1 .taken)))
 
 count-slots-requires : tie.Need-count-slots-requires
-count-slots-requires c κs = let h = holds (c .before .before .before) in (h .low, h .limit, h .room, h .index)
+count-slots-requires c κs = let h = holds (c .before .before .before .before) in (h .low, h .limit, h .room, h .index)
 
 returns-2 : tie.Need-returns-2
 returns-2 c =
     let k = c .before in
-    let v = k .before .before .before .before in
+    let v = k .before .before .before .before .before in
     let a = v .before .before .before .before .before .args in
     answers (now (a .m)) (a .used) (a .w) (now (a .list))
-    (answer-short (now (a .m)) (a .used) (a .w) (length (now (a .list))) (accepted v) (good (k .before)) (k .count-slots .ensures) (c .if2 .taken))
+    (answer-short (now (a .m)) (a .used) (a .w) (length (now (a .list))) (accepted v) (good (k .before .before)) (k .count-slots .ensures) (c .if3 .taken))
 
-list-slots-requires : tie.Need-list-slots-requires
-list-slots-requires c κs =
-    let k = c .before .before in
-    let h = holds (k .before .before .before .before) in
-    (h .low, h .limit, h .room, h .index, omega (arith, k .count-slots .ensures, c .before .if2 .left))
+select-slots-requires : tie.Need-select-slots-requires
+select-slots-requires c κs = let h = holds (c .before .before .before .before .before) in (h .low, h .limit, h .room, h .index)
 
 returns-3 : tie.Need-returns-3
 returns-3 c =
@@ -68,12 +73,14 @@ returns-3 c =
 
 returns-4 : tie.Need-returns-4
 returns-4 c =
-    let k = c .before .before .before .before .before in
-    let v = k .before .before .before .before in
+    let k = c .before .before in
+    let j = k .before .before in
+    let v = j .before .before .before .before in
     let a = v .before .before .before .before .before .args in
+    let e = k .select-slots .ensures in
     let r = answers (now (a .m)) (a .used) (a .w) (now (a .list))
-    (answer-found (now (a .m)) (a .used) (a .w) (length (now (a .list))) (accepted v) (good (k .before)) (k .count-slots .ensures) (c .before .before .before .before .if2 .left)) in
-    (r .0, rw (c .before .before .list-slots .ensures) (r .1))
+    (answer-found (now (a .m)) (a .used) (a .w) (length (now (a .list))) (accepted v) (good (j .before)) (e .0) (omega (arith, e .0, room j))) in
+    (r .0, rw (e .1) (r .1))
 
 pub search-spec : {M : Type 1} → statement M
 search-spec =
@@ -84,12 +91,13 @@ search-spec =
     (λ c. search needs)
     (λ c κs. search needs)
     returns
+    (λ c. omega (arith, few (c .before .before .before)))
     count-slots-requires
-    (λ c. omega (arith, few (c .before)))
+    (λ c. omega (arith, few (c .before .before .before .before .before .before)))
     returns-2
-    list-slots-requires
-    (λ c. omega (arith, few (c .before .before .before .before .before)))
-    (λ c. omega (arith, few (c .before .before .before .before .before)))
+    select-slots-requires
+    (λ c. let k = c .before .before in omega (arith, k .select-slots .ensures .0, few (k .before .before .before .before .before .before)))
+    (λ c. omega (arith, few (c .before .before .before .before .before .before .before .before)))
     returns-3
     (λ c. search needs)
     returns-4)
