@@ -24,7 +24,8 @@ ghost use mathlib.Core.Path.{_≡_};
 ghost use mathlib.Core.Bool.{true};
 ghost use Prim.Native.Nat.{ℕ, _+_, _*_, _≤_, _<_};
 ghost use lib.ListN.{length, drop};
-ghost use Rattle.records.specs.Sizes.{headerSize, indexBlockSize, indexPage, slotSize, entrySize, mapLimit};
+ghost use Rattle.numbers.specs.Bytes.{u32At};
+ghost use Rattle.records.specs.Sizes.{headerSize, indexBlockSize, indexPage, slotSize, mapLimit};
 ghost use Rattle.records.specs.Headers.{headerOf, indexHead};
 ghost use Rattle.records.specs.Slots.{lenGood, bytesIn};
 ghost use Rattle.chain.specs.Chains.{walked, taken};
@@ -290,12 +291,11 @@ fn symbol_good(m: &[u8], used: usize, index: &[u32], at: usize) -> bool
     !meets_block(index, IndexBlock::PAGE, IndexBlock::SIZE, at, size as usize)
 }
 
-// Whether the symbol entry at a place is used and its record is not good.
-fn bad_entry(m: &[u8], used: usize, index: &[u32], at: usize) -> bool
-    requires { ⌜ (at + entrySize ≤ length (now m)) × (used ≤ mapLimit) × (used ≤ length (now m)) × (used + indexPage ≤ length (now index) * indexPage) × Filled indexPage used (now index) ⌝ }
-    ensures { λ r. ⌜ r ≡ badEntry (tableMeets indexBlockSize (now (index .entry))) (now (m .entry)) used at ⌝ }
+// Whether a symbol entry that says p is used and its record is not good.
+fn bad_entry(m: &[u8], used: usize, index: &[u32], p: usize) -> bool
+    requires { ⌜ (p < 4294967296) × (used ≤ mapLimit) × (used ≤ length (now m)) × (used + indexPage ≤ length (now index) * indexPage) × Filled indexPage used (now index) ⌝ }
+    ensures { λ r. ⌜ ((at : ℕ) → p ≡ u32At (now (m .entry)) at → r ≡ badEntry (tableMeets indexBlockSize (now (index .entry))) (now (m .entry)) used at) ⌝ }
 {
-    let p = u32_at(m, at) as usize;
     if p == 0 {
         return false;
     }
@@ -310,7 +310,8 @@ fn judge_entries(m: &[u8], used: usize, index: &[u32], n: usize, k: usize) -> Ju
     let mut at = u32_at(m, Header::SYMBOLS) as usize + 4;
     let mut e = 0;
     while e < 256 * k {
-        if bad_entry(m, used, index, at) {
+        let p = u32_at(m, at) as usize;
+        if bad_entry(m, used, index, p) {
             return Judged::Bad {
                 number: 6,
                 place: at as u32,

@@ -7,11 +7,11 @@ use Rattle.accept.proofs.bad_entry.Tie as tie
 
 returns : tie.Need-returns
 unfolding badEntry
-returns c = rw (← c .before .u32-at .ensures, eq-eqb _ _ (c .if1 .taken))
+returns c at e = rw (← e, eq-eqb _ _ (c .if1 .taken))
 
 returns-2 : tie.Need-returns-2
 unfolding badEntry
-returns-2 c = rw (← c .before .before .u32-at .ensures, ne-eqb _ _ (c .before .if1 .left), c .symbol-good .ensures)
+returns-2 c at e = rw (← e, ne-eqb _ _ (c .before .if1 .left), c .symbol-good .ensures)
 
 pub bad-entry-spec : {M : Type 1} → statement M
-bad-entry-spec = tie.close (tie.spec (λ c κs. search needs) (λ c. search needs) returns (λ c κs. search needs) returns-2)
+bad-entry-spec = tie.close (tie.spec returns (λ c κs. search needs) returns-2)

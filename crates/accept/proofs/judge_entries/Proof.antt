@@ -32,28 +32,33 @@ lies : (c : tie.In-loop Inv-loop μ-loop) → let a = c .before .before .before 
 lies c = look-lies (c .before .loop .inv) (c .loop-test .taken)
 
 -- what is known of it, by the chain in the place of the table
-told : (c : tie.After-bad-entry Inv-loop μ-loop) → let a = c .before .before .before .before .before .before .args in c .bad-entry .result ≡ badEntry (touches (now (a .m)) (a .n)) (now (a .m)) (a .used) (c .before .before .loop .at)
-told c = rw (← same-touch (c .before .before .before .before .before .before .pre .5)) (c .bad-entry .ensures)
+told : (c : tie.After-bad-entry Inv-loop μ-loop) → let a = c .before .before .before .before .before .before .before .args in c .bad-entry .result ≡ badEntry (touches (now (a .m)) (a .n)) (now (a .m)) (a .used) (c .before .before .before .loop .at)
+told c =
+    rw (← same-touch (c .before .before .before .before .before .before .before .pre .5))
+    (c .bad-entry .ensures (c .before .before .before .loop .at) (c .before .u32-at2 .ensures))
+
+u32-at-requires-2 : tie.Need-u32-at-requires-2 Inv-loop μ-loop
+u32-at-requires-2 c κs = omega (arith, lies c .high, c .before .loop .inv .here)
 
 bad-entry-requires : tie.Need-bad-entry-requires Inv-loop μ-loop
 bad-entry-requires c κs =
-    let pre = c .before .before .before .before .before .pre in
-    (omega (arith, lies c .high, c .before .loop .inv .here), pre .1, pre .2, pre .3, pre .4)
+    let pre = c .before .before .before .before .before .before .pre in
+    (omega arith, pre .1, pre .2, pre .3, pre .4)
 
 returns : tie.Need-returns Inv-loop μ-loop
 unfolding entriesJudged
 returns c =
-    let t = c .before .before in
+    let t = c .before .before .before in
     look-bad (t .before .loop .inv) 6 (t .loop-test .taken) (told (c .before)) (c .if1 .taken)
 
 next-cell-requires : tie.Need-next-cell-requires Inv-loop μ-loop
 next-cell-requires c κs =
-    let t = c .before .before in
+    let t = c .before .before .before in
     next-ready (lies t) (t .before .before .before .before .before .pre .2) (omega arith) (t .before .loop .inv .here)
 
 loop-again : tie.Need-loop-again Inv-loop μ-loop
 loop-again c =
-    let t = c .before .before .before in
+    let t = c .before .before .before .before in
     let v = t .before .loop .inv in
     look-on v (t .loop-test .taken) (told (c .before .before)) (c .before .if1 .left) (c .next-cell .ensures symbolHead (v .here))
 
@@ -72,11 +77,13 @@ judge-entries-spec =
     (λ c. search needs)
     loop-holds
     (λ c. omega (arith, pass-few (c .loop .inv .pass) (omega arith)))
+    u32-at-requires-2
+    (λ c. search needs)
     bad-entry-requires
-    (λ c. omega (arith, lies (c .before .before) .high, c .before .before .before .loop .inv .here))
+    (λ c. omega (arith, lies (c .before .before .before) .high, c .before .before .before .before .loop .inv .here))
     returns
     next-cell-requires
-    (λ c. omega (arith, pass-few (c .before .before .before .before .loop .inv .pass) (omega arith)))
+    (λ c. omega (arith, pass-few (c .before .before .before .before .before .loop .inv .pass) (omega arith)))
     (λ c. omega arith)
     loop-again
     returns-2)
