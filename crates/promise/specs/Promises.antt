@@ -1,17 +1,21 @@
 -- The customer's third demand, sentence by sentence, as statements over runs. Each is proved in proofs/ under the same name in small letters. A
 -- state is good when its map is accepted and its journal well formed for it; calls may carry any numbers and bytes that a machine can send.
-use Prim.Native.Nat.{ℕ, _+_, _-_, _/_, _≤_, _<_}
+use Prim.Native.Nat.{ℕ, _+_, _-_, _*_, _/_, _≤_, _<_}
 use mathlib.Core.Bool.{true, false}
 use mathlib.Core.Path.{_≡_}
 use mathlib.Core.Logic.{_↔_}
 use mathlib.Core.List.{List, [], _∷_, _++_}
 use lib.ListN.{length, getD, take, drop}
+use Rattle.numbers.specs.Bytes.{Bytes}
 use Rattle.numbers.specs.Ranges.{share}
 use Rattle.records.specs.declared.Window.{Window}
 use Rattle.records.specs.Windows.{windowGood, meetsWindow}
-use Rattle.records.specs.Sizes.{headerSize, indexBlockSize}
+use Rattle.records.specs.Slots.{slotOf, slotBytes, bytesIn}
+use Rattle.records.specs.Sizes.{headerSize, indexBlockSize, slotSize}
 use Rattle.records.specs.Headers.{indexHead}
 use Rattle.chain.specs.Chains.{block}
+use Rattle.accept.specs.Rules.{slotAt}
+use Rattle.accept.specs.Judging.{versionOf}
 use Rattle.find.specs.declared.Answer.the-variants.{Found, Short, Refused}
 use Rattle.find.specs.Searches.{In}
 use Rattle.journal.specs.Journals.{isHeld, recordsOf}
@@ -68,6 +72,23 @@ pub record ByOne (st : State) (c : Call) : Type 0 where
 
 abbrev pub EditByEdit : Type 0
 EditByEdit = (st : State) (c : Call) → Good st → Sent c → isDone st c ≡ true → ByOne st c
+
+-- ---- a slot's fields are its 24 bytes
+abbrev pub SlotBytes : Type 0
+SlotBytes = (m : List ℕ) (p : ℕ) → Bytes m → p + slotSize ≤ length m → slotBytes (slotOf m p) ≡ take slotSize (drop p m)
+
+-- ---- and so equal contents are equal "byte for byte": of a slot that exists in two good states, the 24 bytes at its place, and its object's bytes
+abbrev pub slotPart : List ℕ → ℕ → List ℕ
+slotPart m s = take slotSize (drop (slotAt m s) m)
+
+abbrev pub objectPart : List ℕ → ℕ → List ℕ
+objectPart m s = take (bytesIn (versionOf m) (slotIn m s .len)) (drop (slotIn m s .position) m)
+
+abbrev pub ContentIsBytes : Type 0
+ContentIsBytes =
+    (st st′ : State) (s : ℕ) → Good st → Good st′ → s < 256 * blocksIn (st .map) (st .used) → s < 256 * blocksIn (st′ .map) (st′ .used)
+    → contentOf (st′ .map) s ≡ contentOf (st .map) s
+    → (slotPart (st′ .map) s ≡ slotPart (st .map) s) × (objectPart (st′ .map) s ≡ objectPart (st .map) s)
 
 -- ---- a search, at any time of a run, lists exactly the live slots whose rectangles meet the window, ascending, in the first entries of its list, and the
 -- others keep what they held. It says how many they are, and how many blocks the chain has. A window with left > right or bottom > top gets 8, and a list
