@@ -4,11 +4,12 @@ use Prim.Native.Nat.{ℕ, _+_, _-_, _*_, _/_, _≤_, _<_}
 use mathlib.Core.Bool.{true, false}
 use mathlib.Core.Path.{_≡_}
 use mathlib.Core.Logic.{_↔_}
-use mathlib.Core.List.{List, [], _∷_, _++_}
+use mathlib.Core.List.{List, [], _∷_, _++_, map}
 use lib.ListN.{length, getD, take, drop}
 use Rattle.numbers.specs.Bytes.{Bytes}
 use Rattle.numbers.specs.Ranges.{share}
 use Rattle.records.specs.declared.Window.{Window}
+use Rattle.records.specs.declared.JournalRecord.{JournalRecord}
 use Rattle.records.specs.Windows.{windowGood, meetsWindow}
 use Rattle.records.specs.Slots.{slotOf, slotBytes, bytesIn}
 use Rattle.records.specs.Sizes.{headerSize, indexBlockSize, slotSize}
@@ -141,6 +142,22 @@ abbrev pub NeverActsAgain : Type 0
 NeverActsAgain =
     (st : State) (cs : List Call) (c : Call) → Good st → AllSent cs → Sent c → isHeld (st .journal) (editNumber c) ≡ true
     → (step (run st cs) c ≡ run st cs) × (isDone (run st cs) c ≡ false)
+
+-- ---- and so the numbers of the edits done in a run, which are those of their records, are distinct from each other, and the first journal holds none of them
+abbrev pub numbersIn : State → List Call → List ℕ
+numbersIn st cs = map editNumber (doneIn st cs)
+
+abbrev pub numbersOf : List JournalRecord → List ℕ
+numbersOf rs = map (λ (r : JournalRecord). r .number) rs
+
+pub record Once (j numbers : List ℕ) : Type 0 where
+  pub distinct : (i k : ℕ) → i < k → k < length numbers → getD numbers i 0 ≡ getD numbers k 0 → ⊥
+  pub new : (e : ℕ) → In e numbers → isHeld j e ≡ false
+
+abbrev pub NumbersOnce : Type 0
+NumbersOnce =
+    (st : State) (cs : List Call) → Good st → AllSent cs
+    → Once (st .journal) (numbersIn st cs) × (numbersOf (recordsIn st cs) ≡ numbersIn st cs)
 
 -- ---- refusals and "done before" change nothing, and neither does a search
 abbrev pub NothingElse : Type 0
