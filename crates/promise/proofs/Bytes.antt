@@ -1,4 +1,5 @@
--- What is stored is bytes, so a buffer of bytes stays one; and the fields of a slot are its bytes. Assumes nothing.
+-- What is stored is bytes, so a buffer of bytes stays one; the fields of a slot are its bytes; and the bytes of an unused record are
+-- zero. Assumes nothing.
 use Prim.Native.Nat.{ℕ, zero, suc, _+_, _-_, _*_, _/_, _%_, _≤_, _<_}
 use mathlib.Core.Bool.{Bool, true, false, cond}
 use mathlib.Core.Path.{_≡_, refl, ap}
@@ -8,18 +9,21 @@ use native.Mathlib.Decide.{ℕ-discrete}
 use native.Mathlib.Nat.{mod-lt, add-zero, add-assoc}
 use native.Mathlib.Numerals.{add-one}
 use native.Mathlib.Omega.{arith}
+use lib.Dec.{eqb}
 use lib.ListN.{length, getD, take, drop, set, replicate, List·getD-append}
 use lib.Seq.{sets, getD-set-same, getD-set-other, set-out, getD-append-add, drop-cons, drop-drop, take-add}
-use Rattle.numbers.specs.Bytes.{Bytes, leAt, bytesOf}
+use borrow.Author.Tests.{eqb-true}
+use Rattle.numbers.specs.Bytes.{Bytes, leAt, u32At, bytesOf}
 use Rattle.numbers.proofs.Coordinates.{lt-or-ge}
 use Rattle.records.specs.declared.Slot.{Slot}
 use Rattle.records.specs.declared.JournalRecord.{JournalRecord}
 use Rattle.records.specs.Slots.{slotOf, slotBytes}
-use Rattle.records.specs.Journals.{recordBytes}
+use Rattle.records.specs.Journals.{recordOf, recordBytes, isUnused}
 use Rattle.chain.proofs.Tables.{zeros}
 use Rattle.journal.specs.Journals.{appended}
 use Rattle.chain.specs.Chains.{place}
 use Rattle.accept.specs.Rules.{slotAt}
+use Rattle.accept.proofs.Telling.{and-true}
 use Rattle.edit.specs.Slots.{withSym, freeSlot}
 use Rattle.edit.specs.Objects.{blockFor}
 use Rattle.edit.specs.Edits.{isFree, slotAdded, inFree, inBlock, addedMap}
@@ -149,3 +153,33 @@ module _ (m : List ℕ) (p : ℕ) (b : Bytes m) (h : p + 24 ≤ length m) where
       (part-field 4 4 16 (omega arith)
       (part-field 8 4 12 (omega arith)
       (part-field 12 4 8 (omega arith) (part-field 16 4 4 (omega arith) (part-field 20 2 2 (omega arith) (part-number 2 m (p + 22) b (omega arith))))))))
+
+-- ---- zero fields are zero bytes
+
+zero-number : (n : ℕ) (xs : List ℕ) (at : ℕ) → leAt n xs at ≡ 0 → (b : ℕ) → at ≤ b → b < at + n → getD xs b 0 ≡ 0
+unfolding leAt
+zero-number zero xs at e b l h = omega arith
+zero-number (suc n) xs at e b l h =
+    elim (ℕ-discrete b at) [
+      | yes q ↦ rw q (omega (arith, e))
+      | no q ↦ zero-number n xs (at + 1) (omega (arith, e)) b (omega arith) (omega arith)
+    ]
+
+pub zero-record : (j : List ℕ) (p : ℕ) → isUnused (recordOf j p) ≡ true → (b : ℕ) → p ≤ b → b < p + 16 → getD j b 0 ≡ 0
+unfolding isUnused recordOf
+zero-record j p e b l h =
+    let number = and-true (eqb (u32At j p) 0) _ e in
+    let kind = and-true (eqb (u32At j (p + 4)) 0) _ (number .1) in
+    let slot = and-true (eqb (u32At j (p + 8)) 0) _ (kind .1) in
+    ⊎-elim
+    (λ g. zero-number 4 j p (eqb-true _ _ (number .0)) b l g)
+    (λ l4.
+    ⊎-elim
+    (λ g. zero-number 4 j (p + 4) (eqb-true _ _ (kind .0)) b l4 (omega arith))
+    (λ l8.
+    ⊎-elim
+    (λ g. zero-number 4 j (p + 8) (eqb-true _ _ (slot .0)) b l8 (omega arith))
+    (λ l12. zero-number 4 j (p + 12) (eqb-true _ _ (slot .1)) b l12 (omega arith))
+    (lt-or-ge b (p + 12)))
+    (lt-or-ge b (p + 8)))
+    (lt-or-ge b (p + 4))

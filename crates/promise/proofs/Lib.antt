@@ -1,6 +1,6 @@
 -- The proofs of the promises.
 --     Steps        an edit's outcome by cases: nothing changes, or it is done
---     Bytes        a buffer of bytes stays one; a slot's fields are its bytes
+--     Bytes        a buffer of bytes stays one; a slot's fields are its bytes; an unused record's are zero
 --     Moves        what a done edit does to the map, for the three edits alike
 --     Contents     live slots and their contents across a done edit
 --     Keeping      a call keeps a good state good

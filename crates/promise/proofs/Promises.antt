@@ -9,6 +9,7 @@ use lib.ListN.{length, getD}
 use Rattle.numbers.specs.Ranges.{share}
 use Rattle.numbers.proofs.Below.{never}
 use Rattle.records.specs.declared.JournalRecord.{JournalRecord}
+use Rattle.records.specs.Sizes.{journalRecordSize}
 use Rattle.records.specs.Headers.{indexHead}
 use Rattle.chain.specs.Chains.{block}
 use Rattle.chain.proofs.Chains.{disjoint, few, walked-end}
@@ -18,10 +19,12 @@ use Rattle.accept.proofs.Accepting.{Holds, accepted-tells, accepted-is}
 use Rattle.accept.proofs.Writes.{pass-of}
 use Rattle.find.specs.Searches.{In}
 use Rattle.journal.specs.Journals.{isHeld, holder, recordIn, recordsOf}
-use Rattle.journal.proofs.Journals.{room-of, recordsOf-appended, length-appended, appended-keeps, appended-record-kept, appended-holds}
+use Rattle.journal.proofs.Records.{length-recordsOf}
+use Rattle.journal.proofs.Journals.{well-formed-tells, room-of, recordsOf-appended, length-appended, appended-keeps, appended-record-kept, appended-holds}
 use Rattle.edit.specs.declared.Answer.the-variants.{Done}
 use Rattle.promise.specs.Runs.{State, Call, add, remove, reinstate, search, outcome, step, run, slotSaid, isDone, doneIn, recordsIn, recordOf, blocksIn, blocksOf, appliedAll, applied, Good, Sent, AllSent}
-use Rattle.promise.specs.Promises.{StaysGood, Ends, IndexEnds, SlotNumbersStay, mapOf, AppliedOnce, JournalGrows, editNumber, NeverActsAgain, numbersIn, numbersOf, Once, NumbersOnce, NothingElse}
+use Rattle.promise.specs.Promises.{StaysGood, Ends, IndexEnds, SlotNumbersStay, mapOf, AppliedOnce, JournalGrows, RestZero, editNumber, NeverActsAgain, numbersIn, numbersOf, Once, NumbersOnce, NothingElse}
+use Rattle.promise.proofs.Bytes.{zero-record}
 use Rattle.promise.proofs.Steps.{change-idle, add-idle}
 use Rattle.promise.proofs.Keeping.{Did, Idle, idle-of, idle-search, call-cases, did-good, step-good}
 
@@ -106,6 +109,14 @@ journal-grows st (c ∷ cs) g a =
       r .1 ∙ ap length (d .journal) ∙ length-appended (st .journal) (recordOf c (d .slot)),
     ))
     (call-cases g c (a .0))
+
+pub rest-zero : RestZero
+unfolding recordIn
+rest-zero st cs g a b l h =
+    let g′ = stays-good st cs g a in
+    let j = run st cs .journal in
+    let w = well-formed-tells j (run st cs .map) (g′ .blocks) (g′ .well) in
+    zero-record j (16 * (b / 16)) (w .rest (b / 16) (omega (arith, length-recordsOf j)) (omega (arith, w .whole))) b (omega arith) (omega arith)
 
 -- ---- what is not done changes nothing
 

@@ -12,7 +12,7 @@ use Rattle.records.specs.declared.Window.{Window}
 use Rattle.records.specs.declared.JournalRecord.{JournalRecord}
 use Rattle.records.specs.Windows.{windowGood, meetsWindow}
 use Rattle.records.specs.Slots.{slotOf, slotBytes, bytesIn}
-use Rattle.records.specs.Sizes.{headerSize, indexBlockSize, slotSize}
+use Rattle.records.specs.Sizes.{headerSize, indexBlockSize, slotSize, journalRecordSize}
 use Rattle.records.specs.Headers.{indexHead}
 use Rattle.chain.specs.Chains.{block}
 use Rattle.accept.specs.Rules.{slotAt}
@@ -125,11 +125,17 @@ ContentStays =
     (st : State) (cs : List Call) (s : ℕ) → Good st → AllSent cs → isLiveIn st s ≡ true → isLiveIn (run st cs) s ≡ true
     → contentOf (run st cs .map) s ≡ contentOf (st .map) s
 
--- ---- "the journal holds its first records, then one for each of those edits in order"; the rest is zero, since it is well formed, and its length stays
+-- ---- "the journal holds its first records, then one for each of those edits in order"; and its length stays
 abbrev pub JournalGrows : Type 0
 JournalGrows =
     (st : State) (cs : List Call) → Good st → AllSent cs
     → (recordsOf (run st cs .journal) ≡ recordsOf (st .journal) ++ recordsIn st cs) × (length (run st cs .journal) ≡ length (st .journal))
+
+-- ---- the rest of the journal is zero, at any time of a run: every byte behind its records
+abbrev pub RestZero : Type 0
+RestZero =
+    (st : State) (cs : List Call) → Good st → AllSent cs
+    → (b : ℕ) → journalRecordSize * length (recordsOf (run st cs .journal)) ≤ b → b < length (run st cs .journal) → getD (run st cs .journal) b 0 ≡ 0
 
 -- ---- "an edit number the journal holds never acts again", at any later time
 abbrev pub editNumber : Call → ℕ
