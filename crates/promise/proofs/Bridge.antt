@@ -1,4 +1,4 @@
--- Edit by edit, contents that stay, and the footbridge. Assumes nothing.
+-- Edit by edit, contents as bytes, contents that stay, and the footbridge. Assumes nothing.
 use Prim.Native.Nat.{ℕ, _+_, _*_, _^_, _≤_, _<_}
 use mathlib.Core.Bool.{Bool, true, false, not, _&&_}
 use mathlib.Core.Path.{_≡_, refl, sym, ap, _∙_}
@@ -16,16 +16,17 @@ use Rattle.numbers.proofs.Below.{never}
 use Rattle.records.specs.declared.Slot.{Slot}
 use Rattle.records.specs.declared.State.the-variants.{Free, Live}
 use Rattle.records.specs.declared.JournalRecord.{JournalRecord}
-use Rattle.records.specs.Slots.{stateOf, bytesIn}
+use Rattle.records.specs.Slots.{slotBytes, stateOf, bytesIn}
 use Rattle.records.specs.Objects.{objectOf, typeGood}
 use Rattle.records.specs.Journals.{recordFor}
-use Rattle.accept.specs.Rules.{touches}
+use Rattle.accept.specs.Rules.{slotAt, touches}
 use Rattle.accept.specs.Judging.{versionOf, headerFits}
 use Rattle.accept.specs.Verdicts.{verdict}
 use Rattle.accept.specs.declared.Verdict.the-variants as verdicts
 use Rattle.accept.proofs.Accepting.{Holds, accepted-tells, accepted-is}
 use Rattle.accept.proofs.Telling.{and-true, GoodSlot}
 use Rattle.accept.proofs.Frame.{good-kept, version-same}
+use Rattle.accept.proofs.Writes.{slot-lies}
 use Rattle.journal.specs.Journals.{looked, isHeld, holder, recordIn, wellFormed}
 use Rattle.journal.proofs.Journals.{room-of, appended-new, appended-holds, appended-holder, held-tells}
 use Rattle.journal.proofs.Records.{not-full, shape-tells}
@@ -34,11 +35,12 @@ use Rattle.edit.specs.Slots.{slotIn, hasState, resym, objectSym}
 use Rattle.edit.specs.Edits.{startOf, afterCheck, afterLook, repeatChange, changed, slotAdded}
 use Rattle.edit.proofs.Syms.{has-tells, len-some, same-live, state-unmarked}
 use Rattle.promise.specs.Runs.{State, Call, add, remove, reinstate, search, edited, outcome, step, run, saysDone, isDone, recordOf, blocksIn, blocksOf, isLiveIn, Content, contentOf, Good, Sent, AllSent}
-use Rattle.promise.specs.Promises.{Own, ByOne, EditByEdit, ContentStays, Removes, NoneRemoves, BridgeStays, Footbridge}
+use Rattle.promise.specs.Promises.{Own, ByOne, EditByEdit, SlotBytes, slotPart, objectPart, ContentIsBytes, ContentStays, Removes, NoneRemoves, BridgeStays, Footbridge}
+use Rattle.promise.proofs.Bytes.{part-slot}
 use Rattle.promise.proofs.Moves.{Moved}
 use Rattle.promise.proofs.Contents.{live-same, content-same, good-of, object-kept, removed-dead, erased-dead, reinstated-live, reinstated-content, free-dead, added-live, added-content}
 use Rattle.promise.proofs.Keeping.{Effect, Did, Idle, call-cases, did-good, step-good}
-use Rattle.promise.proofs.Promises.{stays-good, nothing-else, Keeps, keeps-step, keeps-run, holds-of}
+use Rattle.promise.proofs.Promises.{stays-good, nothing-else, Keeps, keeps-step, keeps-run, holds-of, blocks-of}
 
 -- ---- live slots, by the state's own number of blocks
 
@@ -92,6 +94,28 @@ by-one {st} g c a d =
 pub edit-by-edit : EditByEdit
 edit-by-edit st c g a i =
     ⊎-elim (λ (x : Idle st c). absurd (never (sym i ∙ x .idle))) (λ (d : Did st c (g .blocks)). by-one g c a d) (call-cases g c a)
+
+-- ---- contents are bytes
+
+pub slot-bytes : SlotBytes
+slot-bytes m p b h = part-slot m p b h
+
+-- a slot that exists, as the bytes at its place
+slot-part : {st : State} → Good st → (s : ℕ) → s < 256 * blocksIn (st .map) (st .used) → slotPart (st .map) s ≡ slotBytes (contentOf (st .map) s .slot)
+unfolding contentOf slotIn
+slot-part {st} g s l =
+    let h = holds-of g in
+    sym (slot-bytes (st .map) (slotAt (st .map) s) (g .map-bytes) (omega (arith, slot-lies h s (rw (blocks-of g) at l) .high, h .room)))
+
+object-part : (m : List ℕ) (s : ℕ) → objectPart m s ≡ contentOf m s .object
+unfolding contentOf
+object-part m s = refl
+
+pub content-is-bytes : ContentIsBytes
+content-is-bytes st st′ s g g′ l l′ e = (
+  slot-part g′ s l′ ∙ ap (λ (c : Content). slotBytes (c .slot)) e ∙ sym (slot-part g s l),
+  object-part (st′ .map) s ∙ ap (λ (c : Content). c .object) e ∙ sym (object-part (st .map) s),
+)
 
 -- ---- a slot that was live, in the map of st₀: what stays of it for good
 

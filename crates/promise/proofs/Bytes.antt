@@ -1,24 +1,29 @@
--- What is stored is bytes, so a buffer of bytes stays one. Assumes nothing.
-use Prim.Native.Nat.{ℕ, zero, suc, _+_, _-_, _/_, _<_}
+-- What is stored is bytes, so a buffer of bytes stays one; the fields of a slot are its bytes; and the bytes of an unused record are
+-- zero. Assumes nothing.
+use Prim.Native.Nat.{ℕ, zero, suc, _+_, _-_, _*_, _/_, _%_, _≤_, _<_}
 use mathlib.Core.Bool.{Bool, true, false, cond}
-use mathlib.Core.Path.{_≡_}
+use mathlib.Core.Path.{_≡_, refl, ap}
 use mathlib.Core.Logic.{⊎-elim}
 use mathlib.Core.List.{List, [], _∷_, _++_}
 use native.Mathlib.Decide.{ℕ-discrete}
-use native.Mathlib.Nat.{mod-lt}
+use native.Mathlib.Nat.{mod-lt, add-zero, add-assoc}
+use native.Mathlib.Numerals.{add-one}
 use native.Mathlib.Omega.{arith}
-use lib.ListN.{length, getD, set, replicate, List·getD-append}
-use lib.Seq.{sets, getD-set-same, getD-set-other, set-out, getD-append-add}
-use Rattle.numbers.specs.Bytes.{Bytes, bytesOf}
+use lib.Dec.{eqb}
+use lib.ListN.{length, getD, take, drop, set, replicate, List·getD-append}
+use lib.Seq.{sets, getD-set-same, getD-set-other, set-out, getD-append-add, drop-cons, drop-drop, take-add}
+use borrow.Author.Tests.{eqb-true}
+use Rattle.numbers.specs.Bytes.{Bytes, leAt, u32At, bytesOf}
 use Rattle.numbers.proofs.Coordinates.{lt-or-ge}
 use Rattle.records.specs.declared.Slot.{Slot}
 use Rattle.records.specs.declared.JournalRecord.{JournalRecord}
-use Rattle.records.specs.Slots.{slotBytes}
-use Rattle.records.specs.Journals.{recordBytes}
+use Rattle.records.specs.Slots.{slotOf, slotBytes}
+use Rattle.records.specs.Journals.{recordOf, recordBytes, isUnused}
 use Rattle.chain.proofs.Tables.{zeros}
 use Rattle.journal.specs.Journals.{appended}
 use Rattle.chain.specs.Chains.{place}
 use Rattle.accept.specs.Rules.{slotAt}
+use Rattle.accept.proofs.Telling.{and-true}
 use Rattle.edit.specs.Slots.{withSym, freeSlot}
 use Rattle.edit.specs.Objects.{blockFor}
 use Rattle.edit.specs.Edits.{isFree, slotAdded, inFree, inBlock, addedMap}
@@ -122,3 +127,59 @@ module _ (m : List ℕ) (used n : ℕ) (o : List ℕ) (b : Bytes m) (c : Bytes o
       go : (f : Bool) → Bytes (cond f (inFree m used n o) (inBlock m used n o))
       go true = free-bytes
       go false = new-bytes
+
+-- ---- the bytes of what was read are those that stand there
+
+part-number : (n : ℕ) (xs : List ℕ) (at : ℕ) → Bytes xs → at + n ≤ length xs → bytesOf n (leAt n xs at) ≡ take n (drop at xs)
+unfolding bytesOf leAt
+part-number zero xs at b h = refl
+part-number (suc n) xs at b h =
+    let r = leAt n xs (at + 1) in
+    let low : (getD xs at 0 + 256 * r) % 256 ≡ getD xs at 0 = omega (arith, b at) in
+    let high : (getD xs at 0 + 256 * r) / 256 ≡ r = omega (arith, b at) in
+    rw (drop-cons xs at 0 (omega arith), low, high, ← add-one at) (ap (λ (l : List ℕ). getD xs at 0 ∷ l) (part-number n xs (at + 1) b (omega arith)))
+
+module _ (m : List ℕ) (p : ℕ) (b : Bytes m) (h : p + 24 ≤ length m) where
+  -- a field of n bytes at j, and the k bytes behind it
+  part-field : (j n k : ℕ) → j + n + k ≤ 24 → {ys : List ℕ} → ys ≡ take k (drop (p + (j + n)) m) → bytesOf n (leAt n m (p + j)) ++ ys ≡ take (n + k) (drop (p + j) m)
+  part-field j n k l e =
+      rw (e, part-number n m (p + j) b (omega arith), take-add n k (drop (p + j) m), drop-drop n (p + j) m, add-assoc p j n)
+
+  pub part-slot : slotBytes (slotOf m p) ≡ take 24 (drop p m)
+  unfolding slotBytes slotOf
+  part-slot =
+      rw (add-zero p) at
+      (part-field 0 4 20 (omega arith)
+      (part-field 4 4 16 (omega arith)
+      (part-field 8 4 12 (omega arith)
+      (part-field 12 4 8 (omega arith) (part-field 16 4 4 (omega arith) (part-field 20 2 2 (omega arith) (part-number 2 m (p + 22) b (omega arith))))))))
+
+-- ---- zero fields are zero bytes
+
+zero-number : (n : ℕ) (xs : List ℕ) (at : ℕ) → leAt n xs at ≡ 0 → (b : ℕ) → at ≤ b → b < at + n → getD xs b 0 ≡ 0
+unfolding leAt
+zero-number zero xs at e b l h = omega arith
+zero-number (suc n) xs at e b l h =
+    elim (ℕ-discrete b at) [
+      | yes q ↦ rw q (omega (arith, e))
+      | no q ↦ zero-number n xs (at + 1) (omega (arith, e)) b (omega arith) (omega arith)
+    ]
+
+pub zero-record : (j : List ℕ) (p : ℕ) → isUnused (recordOf j p) ≡ true → (b : ℕ) → p ≤ b → b < p + 16 → getD j b 0 ≡ 0
+unfolding isUnused recordOf
+zero-record j p e b l h =
+    let number = and-true (eqb (u32At j p) 0) _ e in
+    let kind = and-true (eqb (u32At j (p + 4)) 0) _ (number .1) in
+    let slot = and-true (eqb (u32At j (p + 8)) 0) _ (kind .1) in
+    ⊎-elim
+    (λ g. zero-number 4 j p (eqb-true _ _ (number .0)) b l g)
+    (λ l4.
+    ⊎-elim
+    (λ g. zero-number 4 j (p + 4) (eqb-true _ _ (kind .0)) b l4 (omega arith))
+    (λ l8.
+    ⊎-elim
+    (λ g. zero-number 4 j (p + 8) (eqb-true _ _ (slot .0)) b l8 (omega arith))
+    (λ l12. zero-number 4 j (p + 12) (eqb-true _ _ (slot .1)) b l12 (omega arith))
+    (lt-or-ge b (p + 12)))
+    (lt-or-ge b (p + 8)))
+    (lt-or-ge b (p + 4))

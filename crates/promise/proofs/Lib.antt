@@ -1,11 +1,11 @@
 -- The proofs of the promises.
 --     Steps        an edit's outcome by cases: nothing changes, or it is done
---     Bytes        a buffer of bytes stays one
+--     Bytes        a buffer of bytes stays one; a slot's fields are its bytes; an unused record's are zero
 --     Moves        what a done edit does to the map, for the three edits alike
 --     Contents     live slots and their contents across a done edit
 --     Keeping      a call keeps a good state good
 --     Promises     the promises over runs
---     Bridge       edit by edit, contents that stay, the footbridge
+--     Bridge       edit by edit, contents as bytes, contents that stay, the footbridge
 --     Finding      what a search finds
 --     Answers      one answer each
 --     Tables       the worked examples

@@ -1,14 +1,15 @@
 -- The promises over runs, proved. Each name is that of its statement in specs/Promises.antt, in small letters. Assumes nothing.
-use Prim.Native.Nat.{ℕ, _+_, _-_, _*_, _/_, _≤_, _<_}
+use Prim.Native.Nat.{ℕ, zero, suc, _+_, _-_, _*_, _/_, _≤_, _<_}
 use mathlib.Core.Bool.{Bool, true, false, cond}
 use mathlib.Core.Path.{_≡_, refl, sym, ap, _∙_}
 use mathlib.Core.Logic.{_⊎_, inl, inr, ⊎-elim}
-use mathlib.Core.List.{List, [], _∷_, _++_, append-assoc, append-nil}
+use mathlib.Core.List.{List, [], _∷_, _++_, map, append-assoc, append-nil}
 use native.Mathlib.Omega.{arith}
-use lib.ListN.{length}
+use lib.ListN.{length, getD}
 use Rattle.numbers.specs.Ranges.{share}
 use Rattle.numbers.proofs.Below.{never}
 use Rattle.records.specs.declared.JournalRecord.{JournalRecord}
+use Rattle.records.specs.Sizes.{journalRecordSize}
 use Rattle.records.specs.Headers.{indexHead}
 use Rattle.chain.specs.Chains.{block}
 use Rattle.chain.proofs.Chains.{disjoint, few, walked-end}
@@ -16,11 +17,14 @@ use Rattle.accept.specs.Rules.{indexRule}
 use Rattle.accept.specs.Verdicts.{verdict}
 use Rattle.accept.proofs.Accepting.{Holds, accepted-tells, accepted-is}
 use Rattle.accept.proofs.Writes.{pass-of}
+use Rattle.find.specs.Searches.{In}
 use Rattle.journal.specs.Journals.{isHeld, holder, recordIn, recordsOf}
-use Rattle.journal.proofs.Journals.{room-of, recordsOf-appended, length-appended, appended-keeps, appended-record-kept}
+use Rattle.journal.proofs.Records.{length-recordsOf}
+use Rattle.journal.proofs.Journals.{well-formed-tells, room-of, recordsOf-appended, length-appended, appended-keeps, appended-record-kept, appended-holds}
 use Rattle.edit.specs.declared.Answer.the-variants.{Done}
 use Rattle.promise.specs.Runs.{State, Call, add, remove, reinstate, search, outcome, step, run, slotSaid, isDone, doneIn, recordsIn, recordOf, blocksIn, blocksOf, appliedAll, applied, Good, Sent, AllSent}
-use Rattle.promise.specs.Promises.{StaysGood, Ends, IndexEnds, SlotNumbersStay, mapOf, AppliedOnce, JournalGrows, editNumber, NeverActsAgain, NothingElse}
+use Rattle.promise.specs.Promises.{StaysGood, Ends, IndexEnds, SlotNumbersStay, mapOf, AppliedOnce, JournalGrows, RestZero, editNumber, NeverActsAgain, numbersIn, numbersOf, Once, NumbersOnce, NothingElse}
+use Rattle.promise.proofs.Bytes.{zero-record}
 use Rattle.promise.proofs.Steps.{change-idle, add-idle}
 use Rattle.promise.proofs.Keeping.{Did, Idle, idle-of, idle-search, call-cases, did-good, step-good}
 
@@ -106,6 +110,14 @@ journal-grows st (c ∷ cs) g a =
     ))
     (call-cases g c (a .0))
 
+pub rest-zero : RestZero
+unfolding recordIn
+rest-zero st cs g a b l h =
+    let g′ = stays-good st cs g a in
+    let j = run st cs .journal in
+    let w = well-formed-tells j (run st cs .map) (g′ .blocks) (g′ .well) in
+    zero-record j (16 * (b / 16)) (w .rest (b / 16) (omega (arith, length-recordsOf j)) (omega (arith, w .whole))) b (omega arith) (omega arith)
+
 -- ---- what is not done changes nothing
 
 not-done : (st : State) (c : Call) → isDone st c ≡ false → step st c ≡ st
@@ -157,3 +169,52 @@ never-acts-again st cs c g a b h =
     (λ (i : Idle (run st cs) c). (i .same, i .idle))
     (λ (d : Did (run st cs) c (g′ .blocks)). absurd (never (sym (rw (number-of c (d .slot)) (k .held)) ∙ d .fresh)))
     (call-cases g′ c b)
+
+-- ---- each number once
+
+numbers-recorded : (st : State) (cs : List Call) → numbersOf (recordsIn st cs) ≡ numbersIn st cs
+unfolding recordsIn doneIn
+numbers-recorded st [] = refl
+numbers-recorded st (c ∷ cs) = go (isDone st c) (numbers-recorded (step st c) cs)
+  where
+    go : (b : Bool) → numbersOf (recordsIn (step st c) cs) ≡ numbersIn (step st c) cs
+        → numbersOf (cond b (recordOf c (slotSaid (outcome st c .said)) ∷ recordsIn (step st c) cs) (recordsIn (step st c) cs))
+        ≡ map editNumber (cond b (c ∷ doneIn (step st c) cs) (doneIn (step st c) cs))
+    go true e = rw (number-of c (slotSaid (outcome st c .said)), e)
+    go false e = e
+
+-- a number more in front: new in journal j, held in j′, which holds what j holds
+once-more : {j j′ es : List ℕ} {e : ℕ} → isHeld j e ≡ false → isHeld j′ e ≡ true → ((x : ℕ) → isHeld j x ≡ true → isHeld j′ x ≡ true) → Once j′ es → Once j (e ∷ es)
+once-more {j} {j′} {es} {e} free held keep o = record { distinct = distinct-from; new = new-in }
+  where
+    distinct-from : (i k : ℕ) → i < k → k < length (e ∷ es) → getD (e ∷ es) i 0 ≡ getD (e ∷ es) k 0 → ⊥
+    distinct-from i zero a b q = omega arith
+    distinct-from zero (suc k) a b q = never (sym held ∙ ap (isHeld j′) q ∙ o .new (getD es k 0) (k, omega arith, refl))
+    distinct-from (suc i) (suc k) a b q = o .distinct i k (omega arith) (omega arith) q
+
+    unheld : (x : ℕ) (b : Bool) → isHeld j x ≡ b → isHeld j′ x ≡ false → isHeld j x ≡ false
+    unheld x true p q = absurd (never (sym (keep x p) ∙ q))
+    unheld x false p q = p
+
+    new-in : (x : ℕ) → In x (e ∷ es) → isHeld j x ≡ false
+    new-in x (zero, l, q) = rw (sym q) free
+    new-in x (suc i, l, q) = unheld x (isHeld j x) refl (o .new x (i, omega arith, q))
+
+once-in : (st : State) (cs : List Call) → Good st → AllSent cs → Once (st .journal) (numbersIn st cs)
+unfolding doneIn
+once-in st [] g a = record { distinct = λ i k l h q. omega arith; new = λ e h. let no-way : ⊥ = omega (arith, h .1) in absurd no-way }
+once-in st (c ∷ cs) g a =
+    let o = once-in (step st c) cs (step-good g c (a .0)) (a .1) in
+    ⊎-elim
+    (λ (i : Idle st c). rw (i .idle, i .same) (rw (i .same) at o))
+    (λ (d : Did st c (g .blocks)).
+    let e = number-of c (d .slot) in
+    let room = room-of (st .journal) (st .map) (g .blocks) (d .well) (d .room) in
+    rw (did-done d)
+    (once-more (rw e at (d .fresh))
+    (rw (d .journal) (rw e at (appended-holds (st .journal) (recordOf c (d .slot)) room (d .fits) (d .shape))))
+    (λ x h. keeps-step g c (a .0) (record { held = h; is = refl }) .held) o))
+    (call-cases g c (a .0))
+
+pub numbers-once : NumbersOnce
+numbers-once st cs g a = (once-in st cs g a, numbers-recorded st cs)

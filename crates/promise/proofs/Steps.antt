@@ -17,7 +17,7 @@ use Rattle.accept.specs.Judging.{versionOf}
 use Rattle.accept.specs.Verdicts.{verdict}
 use Rattle.accept.proofs.Accepting.{Holds, accepted-tells, accepted-is}
 use Rattle.accept.proofs.Telling.{and-true}
-use borrow.Author.Tests.{leb-true}
+use borrow.Author.Tests.{leb-true, le-leb, ne-eqb}
 use Rattle.journal.specs.declared.Look.{Look}
 use Rattle.journal.specs.declared.Look.the-variants.{Malformed, Held, New}
 use Rattle.journal.specs.Journals.{looked, isFull, isHeld, holder, recordIn, appended, wellFormed}
@@ -118,7 +118,7 @@ module _ (m : List ℕ) (used : ℕ) (j : List ℕ) (e : ℕ) (o : List ℕ) (n 
       go true = still m j (Before t used) refl
       go false = still m j (Refused 14 0) refl
 
-  abbrev addDone : Outcome
+  abbrev pub addDone : Outcome
   addDone = record { answer = Done (freeSlot m n) (newLength m used n o); map = addedMap m used n o; journal = appended j (recordFor e 1 (freeSlot m n)) }
 
   fresh-add-cases : isHeld j e ≡ false → (e ≡ 0 → ⊥) → wellFormed j m n ≡ true → Still m j (freshAdd m used j e o n) ⊎ DoneAdd m used j e o n (freshAdd m used j e o n)
@@ -158,6 +158,13 @@ module _ (m : List ℕ) (used : ℕ) (j : List ℕ) (e : ℕ) (o : List ℕ) (n 
       go Malformed q = inl (still m j (Refused 13 0) refl)
       go (Held k t) q = inl (repeat-add-still k t)
       go (New k) q = let h = looked-new j m n e k q in fresh-add-cases (h .1) (h .0 .number) (h .0 .well)
+
+  -- what makes an add done
+  pub add-done : (e ≡ 0 → ⊥) → isHeld j e ≡ false → wellFormed j m n ≡ true → offeredGood (versionOf m) o ≡ true
+      → newLength m used n o ≤ 16777216 → newLength m used n o ≤ length m → isFull j ≡ false → added m used j e o ≡ addDone
+  unfolding added looked freshAdd
+  add-done ne f w good limit fits room =
+      rw (start-of m used j e n v, ne-eqb e 0 ne, w, f, good, le-leb (newLength m used n o) 16777216 limit, le-leb (newLength m used n o) (length m) fits, room)
 
   pub add-held : isHeld j e ≡ true → Still m j (added m used j e o)
   add-held h = ⊎-elim (λ x. x) (λ d. absurd (never (sym h ∙ d .fresh))) add-cases

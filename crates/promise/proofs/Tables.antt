@@ -1,19 +1,24 @@
--- The worked examples, by computation; the length after the second add by the law of an add, since slot 0 is then taken and slot 1 free. Assumes nothing.
+-- The worked examples, by computation; the length after the second add by the law of an add, since slot 0 is then taken and slot 1 free; and what the two adds
+-- answer, since the journal stays well formed. Assumes nothing.
 use Prim.Native.Nat.{ℕ, _+_, _*_, _≤_, _<_}
 use mathlib.Core.Bool.{Bool, true, false, cond}
 use mathlib.Core.Path.{_≡_, refl, sym, ap, _∙_}
-use mathlib.Core.List.{List, [], _∷_}
+use mathlib.Core.List.{List, [], _∷_, _++_}
 use native.Mathlib.Omega.{arith}
 use lib.ListN.{length, getD}
-use borrow.Author.Tests.{lt-ltb}
-use Rattle.numbers.specs.Bytes.{Bytes, leAt}
+use lib.Seq.{length-sets}
+use borrow.Author.Tests.{lt-ltb, le-leb}
+use Rattle.numbers.specs.Bytes.{Bytes, leAt, bytesOf}
 use Rattle.numbers.specs.Below.{any, first}
 use Rattle.numbers.specs.Coordinates.{signed, valueOf, unmarked}
 use Rattle.numbers.specs.Ranges.{share, within}
 use Rattle.numbers.proofs.Below.{first-is, never}
 use Rattle.records.specs.declared.Slot.{Slot}
 use Rattle.records.specs.declared.State.the-variants.{Free, Live}
+use Rattle.records.specs.declared.JournalRecord.{JournalRecord}
+use Rattle.records.specs.Journals.{recordOf, recordBytes, recordFor, isUnused, shapeGood, kindGood}
 use Rattle.records.specs.Headers.{headerOf, pairGood}
+use Rattle.records.proofs.Journals.{RecordFits}
 use Rattle.records.specs.Slots.{stateOf, sameState, lenOf}
 use Rattle.records.specs.Objects.{objectOf, typeGood, xOf, yOf, coverTo, withoutMarks, rectangleOf}
 use Rattle.records.specs.Windows.{meetsWindow}
@@ -21,18 +26,32 @@ use Rattle.chain.specs.Chains.{place, block, meetsBlock, badLink, stops, taken,
 use Rattle.accept.specs.declared.Verdict.the-variants.{Accepted}
 use Rattle.accept.specs.Judging.{versionOf, lengthGood, partGood}
 use Rattle.accept.specs.Verdicts.{cellsJudged, fieldsJudged, headerJudged, entriesJudged, symbolsJudged, slotsJudged, afterIndex, verdict}
-use Rattle.accept.proofs.Accepting.{accepted-tells}
+use Rattle.accept.proofs.Accepting.{accepted-tells, accepted-is}
+use Rattle.accept.proofs.Frame.{version-same}
+use Rattle.journal.specs.Journals.{recordIn, inUse, badRecord, wellFormed, holder, isHeld, isFull, appended}
+use Rattle.journal.proofs.Journals.{appended-well}
+use Rattle.edit.specs.declared.Answer.the-variants.{Done}
 use Rattle.edit.specs.Slots.{slotIn, freeSlot}
 use Rattle.edit.specs.Objects.{offeredGood, slotFor}
-use Rattle.edit.specs.Edits.{isFree, newLength, addedMap}
+use Rattle.edit.specs.Edits.{isFree, newLength, addedMap, inBlock, added}
 use Rattle.edit.proofs.Adds.{Grown}
-use Rattle.promise.specs.Tables.{empty7, pointObject, pointSlot, Table}
+use Rattle.promise.specs.Tables.{empty7, pointObject, pointSlot, emptyJournal, firstAdd, secondAdd, Table}
 use Rattle.promise.proofs.Bytes.{All, then, bytes-cons, bytes-nil, zero-bytes}
-use Rattle.promise.proofs.Moves.{added-grown, blocksAfter}
+use Rattle.promise.proofs.Steps.{add-done}
+use Rattle.promise.proofs.Moves.{Moved, moved-use, moved-here, added-grown, added-moved, blocksAfter}
 
 accepted : verdict empty7 48 ≡ Accepted 0
 unfolding verdict headerJudged fieldsJudged lengthGood headerOf pairGood partGood leAt afterIndex symbolsJudged entriesJudged slotsJudged cellsJudged walked taken first any stops block place
 accepted = refl
+
+-- the same in any buffer
+accepted-in : (rest : List ℕ) → verdict (empty7 ++ rest) 48 ≡ Accepted 0
+unfolding verdict headerJudged fieldsJudged lengthGood headerOf pairGood partGood leAt afterIndex symbolsJudged entriesJudged slotsJudged cellsJudged walked taken first any stops block place
+accepted-in rest = rw (le-leb 48 (length (empty7 ++ rest)) (omega arith))
+
+seven-in : (rest : List ℕ) → versionOf (empty7 ++ rest) ≡ 7
+unfolding leAt
+seven-in rest = refl
 
 slot : slotFor 7 pointObject 48 ≡ pointSlot
 unfolding slotFor objectOf leAt lenOf rectangleOf withoutMarks coverTo xOf yOf unmarked
@@ -58,6 +77,25 @@ point-bytes = all .all
 offered : offeredGood 7 pointObject ≡ true
 unfolding offeredGood objectOf leAt typeGood
 offered = refl
+
+-- the empty journal, and with the record of the first add
+abbrev firstRecord : JournalRecord
+firstRecord = recordFor 1 1 0
+
+empty-room : (isHeld emptyJournal 1 ≡ false) × (isFull emptyJournal ≡ false)
+unfolding isHeld holder isFull inUse first any recordIn recordOf isUnused leAt
+empty-room = (refl, refl)
+
+first-room : (isHeld (appended emptyJournal firstRecord) 2 ≡ false) × (isFull (appended emptyJournal firstRecord) ≡ false)
+unfolding appended recordBytes bytesOf isHeld holder isFull inUse first any recordIn recordOf isUnused leAt
+first-room = (refl, refl)
+
+first-fits : RecordFits firstRecord
+first-fits = record { number = omega arith; kind = omega arith; slot = omega arith; zeros = omega arith }
+
+first-shape : shapeGood firstRecord ≡ true
+unfolding shapeGood kindGood
+first-shape = refl
 
 module _ (m : List ℕ) (v : verdict m 48 ≡ Accepted 0) (seven : versionOf m ≡ 7) (room : 6236 ≤ length m) where
   m′ : List ℕ
@@ -96,6 +134,51 @@ module _ (m : List ℕ) (v : verdict m 48 ≡ Accepted 0) (seven : versionOf m �
   unfolding newLength m′
   length-two = rw free-is
 
+  -- ---- what the adds answer
+
+  empty-well : wellFormed emptyJournal m 0 ≡ true
+  unfolding wellFormed badRecord inUse first any recordIn recordOf isUnused leAt
+  empty-well = refl
+
+  one : added m 48 emptyJournal 1 pointObject ≡ record { answer = Done 0 6236; map = m′; journal = appended emptyJournal firstRecord }
+  unfolding m′ newLength freeSlot first
+  one = add-done m 48 emptyJournal 1 pointObject 0 v (λ q. omega arith) (empty-room .0) empty-well good (omega arith) room (empty-room .1)
+
+  moved : Moved m m′ 48 6236 0 1 0
+  unfolding m′ blocksAfter newLength freeSlot first
+  moved = added-moved (accepted-tells m 48 0 v) pointObject point-bytes good (omega arith) room
+
+  first-well : wellFormed (appended emptyJournal firstRecord) m′ 1 ≡ true
+  first-well =
+      appended-well emptyJournal m m′ 0 1 firstRecord empty-well (empty-room .1) (empty-room .0) first-fits first-shape (moved-use moved) (moved-here moved)
+
+  length-same : length m′ ≡ length m
+  unfolding m′ addedMap inBlock freeSlot first
+  length-same = rw (length-sets, length-sets, length-sets)
+
+  two : 6276 ≤ length m → added m′ 6236 (appended emptyJournal firstRecord) 2 pointObject .answer ≡ Done 1 6276
+  unfolding m′
+  two more =
+      let l = length-two in
+      rw (
+        add-done m′ 6236 (appended emptyJournal firstRecord) 2 pointObject 1 (accepted-is (grown .holds)) (λ q. omega arith) (first-room .0) first-well
+            (rw (version-same (grown .change)) good) (omega (arith, l)) (omega (arith, l, length-same)) (first-room .1),
+        free-is,
+        l,
+      )
+
+-- ---- the same of the empty map in a buffer
+
+first-answer : (rest : List ℕ) → 6236 ≤ length (empty7 ++ rest) → firstAdd rest .answer ≡ Done 0 6236
+first-answer rest room = rw (one (empty7 ++ rest) (accepted-in rest) (seven-in rest) room)
+
+second-answer : (rest : List ℕ) → 6276 ≤ length (empty7 ++ rest) → secondAdd rest .answer ≡ Done 1 6276
+second-answer rest room =
+    let v = accepted-in rest in
+    let seven = seven-in rest in
+    let enough : 6236 ≤ length (empty7 ++ rest) = omega arith in
+    rw (one (empty7 ++ rest) v seven enough) (two (empty7 ++ rest) v seven enough room)
+
 pub table : Table
 unfolding valueOf signed meetsWindow
 table =
@@ -107,4 +190,6 @@ table =
       slot = slot;
       first = first-length;
       second = length-two;
+      first-answer = first-answer;
+      second-answer = second-answer;
     }

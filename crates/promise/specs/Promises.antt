@@ -1,17 +1,22 @@
 -- The customer's third demand, sentence by sentence, as statements over runs. Each is proved in proofs/ under the same name in small letters. A
 -- state is good when its map is accepted and its journal well formed for it; calls may carry any numbers and bytes that a machine can send.
-use Prim.Native.Nat.{ℕ, _+_, _-_, _/_, _≤_, _<_}
+use Prim.Native.Nat.{ℕ, _+_, _-_, _*_, _/_, _≤_, _<_}
 use mathlib.Core.Bool.{true, false}
 use mathlib.Core.Path.{_≡_}
 use mathlib.Core.Logic.{_↔_}
-use mathlib.Core.List.{List, [], _∷_, _++_}
+use mathlib.Core.List.{List, [], _∷_, _++_, map}
 use lib.ListN.{length, getD, take, drop}
+use Rattle.numbers.specs.Bytes.{Bytes}
 use Rattle.numbers.specs.Ranges.{share}
 use Rattle.records.specs.declared.Window.{Window}
+use Rattle.records.specs.declared.JournalRecord.{JournalRecord}
 use Rattle.records.specs.Windows.{windowGood, meetsWindow}
-use Rattle.records.specs.Sizes.{headerSize, indexBlockSize}
+use Rattle.records.specs.Slots.{slotOf, slotBytes, bytesIn}
+use Rattle.records.specs.Sizes.{headerSize, indexBlockSize, slotSize, journalRecordSize}
 use Rattle.records.specs.Headers.{indexHead}
 use Rattle.chain.specs.Chains.{block}
+use Rattle.accept.specs.Rules.{slotAt}
+use Rattle.accept.specs.Judging.{versionOf}
 use Rattle.find.specs.declared.Answer.the-variants.{Found, Short, Refused}
 use Rattle.find.specs.Searches.{In}
 use Rattle.journal.specs.Journals.{isHeld, recordsOf}
@@ -69,6 +74,23 @@ pub record ByOne (st : State) (c : Call) : Type 0 where
 abbrev pub EditByEdit : Type 0
 EditByEdit = (st : State) (c : Call) → Good st → Sent c → isDone st c ≡ true → ByOne st c
 
+-- ---- a slot's fields are its 24 bytes
+abbrev pub SlotBytes : Type 0
+SlotBytes = (m : List ℕ) (p : ℕ) → Bytes m → p + slotSize ≤ length m → slotBytes (slotOf m p) ≡ take slotSize (drop p m)
+
+-- ---- and so equal contents are equal "byte for byte": of a slot that exists in two good states, the 24 bytes at its place, and its object's bytes
+abbrev pub slotPart : List ℕ → ℕ → List ℕ
+slotPart m s = take slotSize (drop (slotAt m s) m)
+
+abbrev pub objectPart : List ℕ → ℕ → List ℕ
+objectPart m s = take (bytesIn (versionOf m) (slotIn m s .len)) (drop (slotIn m s .position) m)
+
+abbrev pub ContentIsBytes : Type 0
+ContentIsBytes =
+    (st st′ : State) (s : ℕ) → Good st → Good st′ → s < 256 * blocksIn (st .map) (st .used) → s < 256 * blocksIn (st′ .map) (st′ .used)
+    → contentOf (st′ .map) s ≡ contentOf (st .map) s
+    → (slotPart (st′ .map) s ≡ slotPart (st .map) s) × (objectPart (st′ .map) s ≡ objectPart (st .map) s)
+
 -- ---- a search, at any time of a run, lists exactly the live slots whose rectangles meet the window, ascending, in the first entries of its list, and the
 -- others keep what they held. It says how many they are, and how many blocks the chain has. A window with left > right or bottom > top gets 8, and a list
 -- shorter than the count gets 9 with the count needed; the list is then as it was
@@ -103,11 +125,17 @@ ContentStays =
     (st : State) (cs : List Call) (s : ℕ) → Good st → AllSent cs → isLiveIn st s ≡ true → isLiveIn (run st cs) s ≡ true
     → contentOf (run st cs .map) s ≡ contentOf (st .map) s
 
--- ---- "the journal holds its first records, then one for each of those edits in order"; the rest is zero, since it is well formed, and its length stays
+-- ---- "the journal holds its first records, then one for each of those edits in order"; and its length stays
 abbrev pub JournalGrows : Type 0
 JournalGrows =
     (st : State) (cs : List Call) → Good st → AllSent cs
     → (recordsOf (run st cs .journal) ≡ recordsOf (st .journal) ++ recordsIn st cs) × (length (run st cs .journal) ≡ length (st .journal))
+
+-- ---- the rest of the journal is zero, at any time of a run: every byte behind its records
+abbrev pub RestZero : Type 0
+RestZero =
+    (st : State) (cs : List Call) → Good st → AllSent cs
+    → (b : ℕ) → journalRecordSize * length (recordsOf (run st cs .journal)) ≤ b → b < length (run st cs .journal) → getD (run st cs .journal) b 0 ≡ 0
 
 -- ---- "an edit number the journal holds never acts again", at any later time
 abbrev pub editNumber : Call → ℕ
@@ -120,6 +148,22 @@ abbrev pub NeverActsAgain : Type 0
 NeverActsAgain =
     (st : State) (cs : List Call) (c : Call) → Good st → AllSent cs → Sent c → isHeld (st .journal) (editNumber c) ≡ true
     → (step (run st cs) c ≡ run st cs) × (isDone (run st cs) c ≡ false)
+
+-- ---- and so the numbers of the edits done in a run, which are those of their records, are distinct from each other, and the first journal holds none of them
+abbrev pub numbersIn : State → List Call → List ℕ
+numbersIn st cs = map editNumber (doneIn st cs)
+
+abbrev pub numbersOf : List JournalRecord → List ℕ
+numbersOf rs = map (λ (r : JournalRecord). r .number) rs
+
+pub record Once (j numbers : List ℕ) : Type 0 where
+  pub distinct : (i k : ℕ) → i < k → k < length numbers → getD numbers i 0 ≡ getD numbers k 0 → ⊥
+  pub new : (e : ℕ) → In e numbers → isHeld j e ≡ false
+
+abbrev pub NumbersOnce : Type 0
+NumbersOnce =
+    (st : State) (cs : List Call) → Good st → AllSent cs
+    → Once (st .journal) (numbersIn st cs) × (numbersOf (recordsIn st cs) ≡ numbersIn st cs)
 
 -- ---- refusals and "done before" change nothing, and neither does a search
 abbrev pub NothingElse : Type 0
