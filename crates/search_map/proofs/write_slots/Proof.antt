@@ -12,15 +12,5 @@ abbrev μ-loop : tie.MeasureT-loop
 
 pub write-slots-spec : {M : Type 1} → statement M
 write-slots-spec =
-    tie.close
-    (tie.spec
-    Inv-loop
-    μ-loop
-    (λ c. search needs)
-    (λ c. search needs)
-    (λ c. search needs)
-    (λ c κs. search needs)
-    (λ c. search needs)
-    (λ c. search needs)
-    (λ c. search needs)
-    (λ c. search needs))
+    let first = tie.spec Inv-loop μ-loop (λ c. search needs) (λ c. search needs) (λ c. search needs) (λ c κs. search needs) (λ c. search needs) in
+    tie.close (first (λ c. search needs) (λ c. search needs) (λ c. search needs))
