@@ -2,7 +2,7 @@
 
 use crate::calls::{Call, Lent};
 use crate::maps::{self, Map};
-use crate::measure::{run, Effort, Row, Start, Want};
+use crate::measure::{checks_in_turn, run, Effort, Row, Want};
 use crate::report::{grouped, print_group, print_row};
 
 /// Bytes of objects before each block of a full map: 2,000 such blocks fit the limit.
@@ -27,11 +27,12 @@ pub struct Bench {
 
 impl Bench {
     fn row(&mut self, group: &'static str, name: &str, lent: Lent, call: Call, want: Want) {
-        self.row_from(Start::Warm, group, name, lent, call, want);
+        let row = run(group, name, lent, call, want, &self.effort);
+        self.take(row);
     }
 
-    fn row_from(&mut self, from: Start, group: &'static str, name: &str, lent: Lent, call: Call, want: Want) {
-        let row = run(group, name, lent, call, want, from, &self.effort);
+    fn take(&mut self, row: Row) {
+        let group = row.group;
         if self.rows.last().map(|last| last.group) != Some(group) {
             print_group(group);
         }
@@ -115,10 +116,12 @@ impl Bench {
     }
 
     fn growth(&mut self) {
-        for blocks in GROWTH {
+        let map = |blocks| {
             let name = format!("{} full blocks", grouped(blocks));
-            let lent = lend(&maps::full(8, blocks, ROOM), Vec::new());
-            self.row_from(Start::Cold, GROWS, &name, lent, Call::Check, Want::Done);
+            (name, lend(&maps::full(8, blocks, ROOM), Vec::new()))
+        };
+        for row in checks_in_turn(GROWS, GROWTH.map(map).into(), &self.effort) {
+            self.take(row);
         }
     }
 

@@ -38,15 +38,6 @@ impl Row {
     }
 }
 
-/// Where the map is when a sample starts.
-#[derive(Clone, Copy, PartialEq)]
-pub enum Start {
-    /// In the caches, as far as it fits: the sample before left it there.
-    Warm,
-    /// Out of the core's own caches, whatever its size.
-    Cold,
-}
-
 /// So many bytes are written before a cold start.
 const ELSEWHERE: usize = 64 << 20;
 
@@ -61,37 +52,21 @@ pub struct Effort {
 const SAMPLE_NS: f64 = 20_000.0;
 
 /// Stops the program if the sides differ in an answer or a byte.
-pub fn run(
-    group: &'static str,
-    name: &str,
-    lent: Lent,
-    call: Call,
-    want: Want,
-    from: Start,
-    effort: &Effort,
-) -> Row {
+pub fn run(group: &'static str, name: &str, lent: Lent, call: Call, want: Want, effort: &Effort) -> Row {
     let (answer, after) = compare(name, &lent, &call, want);
     let changes = Changes::between(&lent, &after);
     let mut work = after;
     changes.undo(&mut work);
 
-    let mut elsewhere = vec![0u8; if from == Start::Cold { ELSEWHERE } else { 0 }];
-
-    // one sample: the nanoseconds of a call; what it changes is put back outside the timing
+    // what a call changes is put back outside the timing
     let mut sample = |side: &Side, batch: usize| -> f64 {
-        black_box(&mut elsewhere).iter_mut().step_by(64).for_each(|byte| *byte = byte.wrapping_add(1));
-        let start = processor_ns();
-        for _ in 0..batch {
-            black_box(side.make(black_box(&call), &mut work));
-        }
-        let time = processor_ns() - start;
+        let time = timed(side, &call, &mut work, batch);
         changes.undo(&mut work);
-        time as f64 / batch as f64
+        time
     };
     let mut warm = || sample(&LIBRARY, 1).max(sample(&BASELINE, 1));
     let once = (0..3).map(|_| warm()).fold(f64::MAX, f64::min).max(1.0);
-    let repeatable = changes.none() && from == Start::Warm;
-    let batch = if repeatable { (SAMPLE_NS / once).ceil() as usize } else { 1 };
+    let batch = if changes.none() { (SAMPLE_NS / once).ceil() as usize } else { 1 };
 
     let (mut library, mut baseline) = (Vec::new(), Vec::new());
     let start = Instant::now();
@@ -112,6 +87,55 @@ pub fn run(
     assert!(work.map == lent.map && work.journal == lent.journal, "{name}: not put back");
     let (library, baseline) = (times(library), times(baseline));
     Row { group, name: name.to_string(), answer, library, baseline }
+}
+
+/// Checks of several maps, one after the other and over and over, so that what else the machine does
+/// falls on all of them. Before each one other bytes are written, so that it starts with a cold cache.
+pub fn checks_in_turn(group: &'static str, maps: Vec<(String, Lent)>, effort: &Effort) -> Vec<Row> {
+    let answers: Vec<Answer> =
+        maps.iter().map(|(name, lent)| compare(name, lent, &Call::Check, Want::Done).0).collect();
+    let mut elsewhere = vec![0u8; ELSEWHERE];
+    let mut samples = vec![[Vec::new(), Vec::new()]; maps.len()];
+    let mut maps = maps;
+    let start = Instant::now();
+    let rounds = effort.least_pairs..effort.most_pairs;
+    while samples[0][0].len() < rounds.start
+        || (samples[0][0].len() < rounds.end && start.elapsed() < effort.budget * maps.len() as u32)
+    {
+        for ((_, lent), samples) in maps.iter_mut().zip(&mut samples) {
+            for (side, samples) in [&LIBRARY, &BASELINE].into_iter().zip(samples) {
+                black_box(&mut elsewhere)
+                    .iter_mut()
+                    .step_by(64)
+                    .for_each(|byte| *byte = byte.wrapping_add(1));
+                samples.push(timed(side, &Call::Check, lent, 1));
+            }
+        }
+    }
+    let rows = maps.into_iter().zip(answers).zip(samples);
+    rows.map(|(((name, _), answer), [library, baseline])| Row {
+        group,
+        name,
+        answer,
+        library: times(library),
+        baseline: times(baseline),
+    })
+    .collect()
+}
+
+/// The nanoseconds of a call that is made so often. Where the clock did not move, as happens on a guest
+/// machine, they are taken again.
+fn timed(side: &Side, call: &Call, lent: &mut Lent, batch: usize) -> f64 {
+    loop {
+        let start = processor_ns();
+        for _ in 0..batch {
+            black_box(side.make(black_box(call), lent));
+        }
+        let time = processor_ns() - start;
+        if time > 0 {
+            return time as f64 / batch as f64;
+        }
+    }
 }
 
 /// Both sides on copies of their own: the same number, outs and bytes. These come back.
