@@ -22,7 +22,7 @@ use Rattle.records.specs.Symbols.{sizeGood}
 use Rattle.records.proofs.Symbols.{size-small}
 use Rattle.records.specs.Objects.{objectOf}
 use Rattle.records.proofs.Slots.{len-room}
-use Rattle.chain.specs.Tables.{Table, tableMeets}
+use Rattle.chain.specs.Tables.{EndsTable, endsMeet}
 use Rattle.chain.proofs.Tables.{table-meets}
 use Rattle.accept.specs.Rules.{touches}
 
@@ -34,8 +34,8 @@ pub passes : {r b : Bool} → r ≡ b → not r ≡ false → b ≡ true
 passes {r} e t = sym e ∙ not-false r t
 
 -- the table's test of a range is the chain's
-pub same-touch : {m : List ℕ} {n : ℕ} {t : List ℕ} → Table indexHead indexPage m n t → tableMeets indexBlockSize t ≡ touches m n
-same-touch w = fun-ext (λ p. fun-ext (λ len. table-meets w indexBlockSize p len))
+pub same-touch : {m : List ℕ} {n : ℕ} {t : List ℕ} → EndsTable indexBlockSize indexHead indexPage m n t → endsMeet indexBlockSize t ≡ touches m n
+same-touch w = fun-ext (λ p. fun-ext (λ len. table-meets (w .table) indexBlockSize p len))
 
 -- an object's header, read in a part that has it
 pub object-part : (m : List ℕ) (p : ℕ) {k : ℕ} → objectHeaderSize ≤ k → objectOf (take k (drop p m)) ≡ objectOf (drop p m)

@@ -9,13 +9,13 @@ use lib.ListN.{length}
 use Rattle.numbers.specs.Bytes.{Bytes}
 use Rattle.numbers.proofs.Bytes.{leAt-lt}
 use Rattle.records.specs.declared.Header.{Header}
-use Rattle.records.specs.Sizes.{headerSize, mapLimit, indexPage, symbolBlockSize, symbolPage}
+use Rattle.records.specs.Sizes.{headerSize, mapLimit, indexBlockSize, indexPage, symbolBlockSize, symbolPage}
 use Rattle.records.specs.Headers.{headerOf, setupAt, infoAt, indexHead, symbolHead}
 use Rattle.chain.specs.declared.Kind.{Kind}
 use Rattle.chain.specs.declared.Walk.{Walk}
 use Rattle.chain.specs.declared.Walk.the-variants.{Fault}
 use Rattle.chain.specs.Chains.{Rule, place, walked, taken}
-use Rattle.chain.specs.Tables.{Empty, Placed, Filled, Table, kindRule, Ready}
+use Rattle.chain.specs.Tables.{Empty, Placed, Filled, Table, EndsTable, kindRule, Ready}
 use Rattle.chain.proofs.Chains.{fault-tells}
 use Rattle.chain.proofs.Tables.{rule-ranges, rule-other}
 use Rattle.chain.proofs.Filling.{empty-filled}
@@ -46,7 +46,7 @@ module _ (m : List ℕ) {h : Header} {k : Kind} (e : h ≡ headerOf m) (f : k �
           other-most = omega arith;
           other-page = omega arith;
           other-wide = omega arith;
-          other-filled = empty-filled mapLimit _ g;
+          other-filled = empty-filled indexBlockSize mapLimit _ g;
         };
         least = least;
         head-in = omega arith;
@@ -58,13 +58,13 @@ module _ (m : List ℕ) {h : Header} {k : Kind} (e : h ≡ headerOf m) (f : k �
 -- ---- symbol blocks
 
 module _ {k : Kind} (e : k ≡ symbolKind) where
-  pub symbol-rule : {m : List ℕ} {n : ℕ} {index : List ℕ} → Table indexHead indexPage m n index → kindRule k index ≡ symbolRule m n
+  pub symbol-rule : {m : List ℕ} {n : ℕ} {index : List ℕ} → EndsTable indexBlockSize indexHead indexPage m n index → kindRule k index ≡ symbolRule m n
   symbol-rule {index} w =
       rw e
       (rule-other symbolKind index refl refl
       ∙ ap (λ (touch : ℕ → ℕ → Bool). record { head = symbolHead; size = symbolBlockSize; taboo = λ p. touch p symbolBlockSize }) (same-touch w))
 
-  pub symbol-ready : {used : ℕ} {index t : List ℕ} → headerSize ≤ used → used ≤ mapLimit → used + indexPage ≤ length index * indexPage → Filled indexPage used index → used + symbolPage ≤ length t * symbolPage → Ready k used index t
+  pub symbol-ready : {used : ℕ} {index t : List ℕ} → headerSize ≤ used → used ≤ mapLimit → used + indexPage ≤ length index * indexPage → Filled indexBlockSize indexPage used index → used + symbolPage ≤ length t * symbolPage → Ready k used index t
   symbol-ready least most reach filled wide =
       rw e
       (record {

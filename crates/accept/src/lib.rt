@@ -29,7 +29,7 @@ ghost use Rattle.records.specs.Sizes.{headerSize, indexBlockSize, indexPage, sl
 ghost use Rattle.records.specs.Headers.{headerOf, indexHead};
 ghost use Rattle.records.specs.Slots.{lenGood, bytesIn};
 ghost use Rattle.chain.specs.Chains.{walked, taken};
-ghost use Rattle.chain.specs.Tables.{Empty, Placed, Filled, Table, tableMeets};
+ghost use Rattle.chain.specs.Tables.{Empty, Placed, Filled, Table, EndsTable, endsMeet};
 ghost use Rattle.chain.specs.declared.Walk.the-variants.{Blocks};
 ghost use Rattle.accept.specs.declared.Verdict.the-variants.{Accepted};
 ghost use Rattle.accept.specs.declared.Examined.the-variants as examined;
@@ -171,8 +171,8 @@ fn header_fits(h: ObjectHeader, t: Slot, bytes: usize) -> bool
 
 // Whether a slot's object is good. The part of the map that starts at its position is handed on.
 fn object_good(m: &[u8], used: usize, version: u16, index: &[u32], t: Slot) -> bool
-    requires { ⌜ (used ≤ mapLimit) × (used ≤ length (now m)) × (used + indexPage ≤ length (now index) * indexPage) × Filled indexPage used (now index) × (lenGood version (t .len) ≡ true) ⌝ }
-    ensures { λ r. ⌜ r ≡ objectGood (tableMeets indexBlockSize (now (index .entry))) (now (m .entry)) used version t ⌝ }
+    requires { ⌜ (used ≤ mapLimit) × (used ≤ length (now m)) × (used + indexPage ≤ length (now index) * indexPage) × Filled indexBlockSize indexPage used (now index) × (lenGood version (t .len) ≡ true) ⌝ }
+    ensures { λ r. ⌜ r ≡ objectGood (endsMeet indexBlockSize (now (index .entry))) (now (m .entry)) used version t ⌝ }
 {
     let at = t.position as usize;
     let bytes = bytes_in(version, t.len);
@@ -190,8 +190,8 @@ fn object_good(m: &[u8], used: usize, version: u16, index: &[u32], t: Slot) -> b
 
 // Whether a slot would be good as a live one.
 pub fn slot_good(m: &[u8], used: usize, version: u16, index: &[u32], t: Slot) -> bool
-    requires { ⌜ (used ≤ mapLimit) × (used ≤ length (now m)) × (used + indexPage ≤ length (now index) * indexPage) × Filled indexPage used (now index) ⌝ }
-    ensures { λ r. ⌜ r ≡ slotGood (tableMeets indexBlockSize (now (index .entry))) (now (m .entry)) used version t ⌝ }
+    requires { ⌜ (used ≤ mapLimit) × (used ≤ length (now m)) × (used + indexPage ≤ length (now index) * indexPage) × Filled indexBlockSize indexPage used (now index) ⌝ }
+    ensures { λ r. ⌜ r ≡ slotGood (endsMeet indexBlockSize (now (index .entry))) (now (m .entry)) used version t ⌝ }
 {
     if !at_most(t.left, t.right) {
         return false;
@@ -207,8 +207,8 @@ pub fn slot_good(m: &[u8], used: usize, version: u16, index: &[u32], t: Slot) ->
 
 // What the slot at a place is judged to be.
 fn judge_slot(m: &[u8], used: usize, version: u16, index: &[u32], at: usize) -> Told
-    requires { ⌜ (at + slotSize ≤ length (now m)) × (used ≤ mapLimit) × (used ≤ length (now m)) × (used + indexPage ≤ length (now index) * indexPage) × Filled indexPage used (now index) ⌝ }
-    ensures { λ r. ⌜ r ≡ slotTold (tableMeets indexBlockSize (now (index .entry))) (now (m .entry)) used version at ⌝ }
+    requires { ⌜ (at + slotSize ≤ length (now m)) × (used ≤ mapLimit) × (used ≤ length (now m)) × (used + indexPage ≤ length (now index) * indexPage) × Filled indexBlockSize indexPage used (now index) ⌝ }
+    ensures { λ r. ⌜ r ≡ slotTold (endsMeet indexBlockSize (now (index .entry))) (now (m .entry)) used version at ⌝ }
 {
     let t = Slot::at(m, at);
     if t.len == 0 {
@@ -248,7 +248,7 @@ fn first_free(told: Told, free: usize, s: usize) -> usize
 
 // 7: the live slot at fault of lowest number. Where there is none, the first free slot, 256 times the blocks where none is free.
 fn judge_slots(m: &[u8], used: usize, index: &[u32], n: usize) -> Examined
-    requires { ⌜ (headerSize ≤ used) × (used ≤ mapLimit) × (used ≤ length (now m)) × (used + indexPage ≤ length (now index) * indexPage) × (walked (indexRule (now m)) (now m) used ≡ Blocks n) × Filled indexPage used (now index) × Table indexHead indexPage (now m) n (now index) ⌝ }
+    requires { ⌜ (headerSize ≤ used) × (used ≤ mapLimit) × (used ≤ length (now m)) × (used + indexPage ≤ length (now index) * indexPage) × (walked (indexRule (now m)) (now m) used ≡ Blocks n) × Filled indexBlockSize indexPage used (now index) × EndsTable indexBlockSize indexHead indexPage (now m) n (now index) ⌝ }
     ensures { λ r. ⌜ r ≡ withFree (now (m .entry)) (unless (slotsJudged (now (m .entry)) used n) (Accepted n)) ⌝ }
 {
     let version = u16_at(m, Header::VERSION);
@@ -272,8 +272,8 @@ fn judge_slots(m: &[u8], used: usize, index: &[u32], n: usize) -> Examined
 
 // Whether a symbol record is good.
 fn symbol_good(m: &[u8], used: usize, index: &[u32], at: usize) -> bool
-    requires { ⌜ (at < 4294967296) × (used ≤ mapLimit) × (used ≤ length (now m)) × (used + indexPage ≤ length (now index) * indexPage) × Filled indexPage used (now index) ⌝ }
-    ensures { λ r. ⌜ r ≡ symbolGood (tableMeets indexBlockSize (now (index .entry))) (now (m .entry)) used at ⌝ }
+    requires { ⌜ (at < 4294967296) × (used ≤ mapLimit) × (used ≤ length (now m)) × (used + indexPage ≤ length (now index) * indexPage) × Filled indexBlockSize indexPage used (now index) ⌝ }
+    ensures { λ r. ⌜ r ≡ symbolGood (endsMeet indexBlockSize (now (index .entry))) (now (m .entry)) used at ⌝ }
 {
     if at < Header::SIZE {
         return false;
@@ -293,8 +293,8 @@ fn symbol_good(m: &[u8], used: usize, index: &[u32], at: usize) -> bool
 
 // Whether a symbol entry that says p is used and its record is not good.
 fn bad_entry(m: &[u8], used: usize, index: &[u32], p: usize) -> bool
-    requires { ⌜ (p < 4294967296) × (used ≤ mapLimit) × (used ≤ length (now m)) × (used + indexPage ≤ length (now index) * indexPage) × Filled indexPage used (now index) ⌝ }
-    ensures { λ r. ⌜ ((at : ℕ) → p ≡ u32At (now (m .entry)) at → r ≡ badEntry (tableMeets indexBlockSize (now (index .entry))) (now (m .entry)) used at) ⌝ }
+    requires { ⌜ (p < 4294967296) × (used ≤ mapLimit) × (used ≤ length (now m)) × (used + indexPage ≤ length (now index) * indexPage) × Filled indexBlockSize indexPage used (now index) ⌝ }
+    ensures { λ r. ⌜ ((at : ℕ) → p ≡ u32At (now (m .entry)) at → r ≡ badEntry (endsMeet indexBlockSize (now (index .entry))) (now (m .entry)) used at) ⌝ }
 {
     if p == 0 {
         return false;
@@ -304,7 +304,7 @@ fn bad_entry(m: &[u8], used: usize, index: &[u32], p: usize) -> bool
 
 // 6, of the first k symbol blocks: the first entry at fault.
 fn judge_entries(m: &[u8], used: usize, index: &[u32], n: usize, k: usize) -> Judged
-    requires { ⌜ (headerSize ≤ used) × (used ≤ mapLimit) × (used ≤ length (now m)) × (used + indexPage ≤ length (now index) * indexPage) × Filled indexPage used (now index) × Table indexHead indexPage (now m) n (now index) × (k ≡ taken (symbolRule (now m) n) (now m) used) ⌝ }
+    requires { ⌜ (headerSize ≤ used) × (used ≤ mapLimit) × (used ≤ length (now m)) × (used + indexPage ≤ length (now index) * indexPage) × Filled indexBlockSize indexPage used (now index) × EndsTable indexBlockSize indexHead indexPage (now m) n (now index) × (k ≡ taken (symbolRule (now m) n) (now m) used) ⌝ }
     ensures { λ r. ⌜ r ≡ entriesJudged (now (m .entry)) used n k ⌝ }
 {
     let mut at = u32_at(m, Header::SYMBOLS) as usize + 4;
@@ -361,7 +361,7 @@ fn index_kind(h: Header) -> Kind
 
 // 6: the symbol blocks and their entries, with a table of the blocks.
 fn judge_symbol_blocks(m: &[u8], used: usize, index: &[u32], n: usize) -> Judged
-    requires { ⌜ (headerSize ≤ used) × (used ≤ mapLimit) × (used ≤ length (now m)) × (used + indexPage ≤ length (now index) * indexPage) × Filled indexPage used (now index) × Table indexHead indexPage (now m) n (now index) ⌝ }
+    requires { ⌜ (headerSize ≤ used) × (used ≤ mapLimit) × (used ≤ length (now m)) × (used + indexPage ≤ length (now index) * indexPage) × Filled indexBlockSize indexPage used (now index) × EndsTable indexBlockSize indexHead indexPage (now m) n (now index) ⌝ }
     ensures { λ r. ⌜ r ≡ symbolsJudged (now (m .entry)) used n ⌝ }
 {
     let mut t = [0u32; SymbolBlock::TABLE];
@@ -383,7 +383,7 @@ fn judge_symbol_blocks(m: &[u8], used: usize, index: &[u32], n: usize) -> Judged
 
 // 6: a map without symbol blocks needs no table of them.
 fn judge_symbols(m: &[u8], used: usize, index: &[u32], n: usize) -> Judged
-    requires { ⌜ (headerSize ≤ used) × (used ≤ mapLimit) × (used ≤ length (now m)) × (used + indexPage ≤ length (now index) * indexPage) × Filled indexPage used (now index) × Table indexHead indexPage (now m) n (now index) ⌝ }
+    requires { ⌜ (headerSize ≤ used) × (used ≤ mapLimit) × (used ≤ length (now m)) × (used + indexPage ≤ length (now index) * indexPage) × Filled indexBlockSize indexPage used (now index) × EndsTable indexBlockSize indexHead indexPage (now m) n (now index) ⌝ }
     ensures { λ r. ⌜ r ≡ symbolsJudged (now (m .entry)) used n ⌝ }
 {
     if u32_at(m, Header::SYMBOLS) == 0 {
@@ -394,7 +394,7 @@ fn judge_symbols(m: &[u8], used: usize, index: &[u32], n: usize) -> Judged
 
 // 6, then 7, of a map whose index blocks are good.
 fn judge_objects(m: &[u8], used: usize, index: &[u32], n: usize) -> Examined
-    requires { ⌜ (headerSize ≤ used) × (used ≤ mapLimit) × (used ≤ length (now m)) × (used + indexPage ≤ length (now index) * indexPage) × (walked (indexRule (now m)) (now m) used ≡ Blocks n) × Filled indexPage used (now index) × Table indexHead indexPage (now m) n (now index) ⌝ }
+    requires { ⌜ (headerSize ≤ used) × (used ≤ mapLimit) × (used ≤ length (now m)) × (used + indexPage ≤ length (now index) * indexPage) × (walked (indexRule (now m)) (now m) used ≡ Blocks n) × Filled indexBlockSize indexPage used (now index) × EndsTable indexBlockSize indexHead indexPage (now m) n (now index) ⌝ }
     ensures { λ r. ⌜ r ≡ withFree (now (m .entry)) (afterIndex (now (m .entry)) used (Blocks n)) ⌝ }
 {
     let symbols = judge_symbols(m, used, index, n);
@@ -407,16 +407,16 @@ fn judge_objects(m: &[u8], used: usize, index: &[u32], n: usize) -> Examined
 // 6, then 7, of a map whose index blocks are good. Their table is filled first.
 fn judge_rest(m: &[u8], used: usize, index: &mut [u32], n: usize) -> Examined
     requires { ⌜ (headerSize ≤ used) × (used ≤ mapLimit) × (used ≤ length (now m)) × (used + indexPage ≤ length (now index) * indexPage) × (walked (indexRule (now m)) (now m) used ≡ Blocks n) × Placed indexPage (now index) × Table indexHead indexPage (now m) n (now index) ⌝ }
-    ensures { λ r. ⌜ (r ≡ withFree (now (m .entry)) (afterIndex (now (m .entry)) used (Blocks n))) × Filled indexPage used (now (index .exit)) × Table indexHead indexPage (now (m .entry)) n (now (index .exit)) ⌝ }
+    ensures { λ r. ⌜ (r ≡ withFree (now (m .entry)) (afterIndex (now (m .entry)) used (Blocks n))) × Filled indexBlockSize indexPage used (now (index .exit)) × EndsTable indexBlockSize indexHead indexPage (now (m .entry)) n (now (index .exit)) ⌝ }
 {
-    fill(index, (used - 1) / IndexBlock::PAGE + 2);
+    fill(index, (used - 1) / IndexBlock::PAGE + 2, IndexBlock::SIZE as u32);
     judge_objects(m, used, index, n)
 }
 
 // 5: the index blocks; then the rest. The table has the index blocks, filled, where the map is accepted.
 fn judge_index(m: &[u8], used: usize, index: &mut [u32]) -> Examined
     requires { ⌜ (headerSize ≤ used) × (used ≤ mapLimit) × (used ≤ length (now m)) × (used + indexPage ≤ length (now index) * indexPage) × Empty (now index) ⌝ }
-    ensures { λ r. ⌜ (r ≡ withFree (now (m .entry)) (afterIndex (now (m .entry)) used (walked (indexRule (now (m .entry))) (now (m .entry)) used))) × ((n free : ℕ) → r ≡ examined.Accepted n free → Filled indexPage used (now (index .exit)) × Table indexHead indexPage (now (m .entry)) n (now (index .exit))) ⌝ }
+    ensures { λ r. ⌜ (r ≡ withFree (now (m .entry)) (afterIndex (now (m .entry)) used (walked (indexRule (now (m .entry))) (now (m .entry)) used))) × ((n free : ℕ) → r ≡ examined.Accepted n free → Filled indexBlockSize indexPage used (now (index .exit)) × EndsTable indexBlockSize indexHead indexPage (now (m .entry)) n (now (index .exit))) ⌝ }
 {
     let none = [0u32; 2];
     let w = walk_chain(m, used, index_kind(Header::of(m)), &none, index);
@@ -432,7 +432,7 @@ fn judge_index(m: &[u8], used: usize, index: &mut [u32]) -> Examined
 // The check, with a lent table, empty before, that has the index blocks, filled, afterwards where the map is accepted.
 pub fn examine(m: &[u8], used: usize, index: &mut [u32]) -> Examined
     requires { ⌜ (mapLimit + indexPage ≤ length (now index) * indexPage) × Empty (now index) ⌝ }
-    ensures { λ r. ⌜ (r ≡ withFree (now (m .entry)) (verdict (now (m .entry)) used)) × ((n free : ℕ) → r ≡ examined.Accepted n free → Filled indexPage used (now (index .exit)) × Table indexHead indexPage (now (m .entry)) n (now (index .exit))) ⌝ }
+    ensures { λ r. ⌜ (r ≡ withFree (now (m .entry)) (verdict (now (m .entry)) used)) × ((n free : ℕ) → r ≡ examined.Accepted n free → Filled indexBlockSize indexPage used (now (index .exit)) × EndsTable indexBlockSize indexHead indexPage (now (m .entry)) n (now (index .exit))) ⌝ }
 {
     let j = judge_header(m, used);
     match j {

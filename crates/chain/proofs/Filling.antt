@@ -1,5 +1,5 @@
 -- The laws of a filled table: that filling makes one of the table that a walk leaves, that it keeps the blocks, and that the last block which starts before a
--- range's end tells whether any meets the range. Assumes nothing.
+-- range's end tells whether any meets the range. They go by the starts that a table of ends tells. Assumes nothing.
 use Prim.Native.Nat.{ℕ, zero, suc, _+_, _-_, _*_, _/_, _≤_, _<_, min, max}
 use mathlib.Core.Bool.{Bool, true, false, cond}
 use mathlib.Core.Path.{_≡_, refl, sym, ap, _∙_}
@@ -18,11 +18,12 @@ use Rattle.numbers.specs.Ranges.{share}
 use Rattle.numbers.specs.Below.{any}
 use Rattle.numbers.proofs.Below.{any-none, below-cases}
 use Rattle.numbers.proofs.Ranges.{share-before, share-after}
-use Rattle.chain.specs.Chains.{block}
-use Rattle.chain.specs.Tables.{Empty, Placed, Table, lastBelow, Carried, Filled, lastBefore, entryMeets, tableMeets, Bounds}
+use Rattle.chain.specs.Chains.{Rule, block}
+use Rattle.chain.specs.Tables.{Empty, Placed, Table, lastBelow, endOf, startsOf, Carried, LastStarts, Filled, EndsTable, lastEnd, entryMeets, tableMeets, endsMeet, Bounds}
 use Rattle.chain.specs.declared.Kind.{Kind}
+use Rattle.chain.proofs.Chains.{Pass}
 use Rattle.chain.proofs.Pigeon.{div-lt, div-mono, div-below}
-use Rattle.chain.proofs.Tables.{entry-full, entry-case, scan-hit}
+use Rattle.chain.proofs.Tables.{entry-full, entry-case, scan-hit, starts-at, starts-empty}
 
 -- ---- the last entry below b
 
@@ -61,83 +62,162 @@ module _ (t : List ℕ) where
           | no e ↦ rw (suc-full b e) (⊎-elim (λ (q : c ≡ b). rw q (omega arith)) (λ g. let o = p .own b e in let i = p .own c ne in omega (arith, div-lt (getD t c 0) (getD t b 0) w z (omega arith))) (below-cases l))
         ]
 
+-- ---- ends and starts
+
+end-none : (n : ℕ) {p : ℕ} → p ≡ 0 → endOf n p ≡ 0
+unfolding endOf
+end-none n {p} e = rw (eq-eqb p 0 e)
+
+end-some : (n : ℕ) {p : ℕ} → (p ≡ 0 → ⊥) → endOf n p ≡ p + n
+unfolding endOf
+end-some n {p} ne = rw (ne-eqb p 0 ne)
+
+-- the start of the block that ends there
+end-start : (n p : ℕ) → endOf n p - n ≡ p
+end-start n p =
+    elim (ℕ-discrete p 0) [
+      | yes e ↦ omega (arith, end-none n e)
+      | no e ↦ omega (arith, end-some n e)
+    ]
+
+-- what ends is past the bytes of a block
+end-past : (n p : ℕ) → (endOf n p ≡ 0 → ⊥) → n < endOf n p
+end-past n p ne =
+    elim (ℕ-discrete p 0) [
+      | yes e ↦ absurd (ne (end-none n e))
+      | no e ↦ omega (arith, end-some n e)
+    ]
+
 -- ---- filling, an entry at a time
 
-pub carried-none : (t : List ℕ) → Carried 0 t t
-carried-none t = record { below = λ b l. absurd (omega arith); above = λ b l. refl }
+pub carried-none : (n : ℕ) (t : List ℕ) → Carried n 0 t t
+carried-none n t = record { below = λ b l. absurd (omega arith); above = λ b l. refl }
 
-module _ {b : ℕ} {t t′ : List ℕ} (c : Carried b t t′) where
-  -- the next entry has a block of its own
-  pub carried-full : (getD t′ b 0 ≡ 0 → ⊥) → Carried (b + 1) t t′
-  carried-full ne =
-      let s = c .above b (omega arith) in
-      record {
-        below = below-more (λ (d : ℕ). getD t′ d 0 ≡ lastBelow t (d + 1)) b (c .below) (s ∙ sym (below-full t b (λ g. ne (s ∙ g))));
-        above = λ d l. c .above d (omega arith);
-      }
+pub last-none : (n : ℕ) (t : List ℕ) → 0 ≡ endOf n (lastBelow t 0)
+unfolding lastBelow
+last-none n t = sym (end-none n refl)
 
-  -- or it gets the last one
-  pub carried-empty : b < length t′ → getD t′ b 0 ≡ 0 → {last : ℕ} → last ≡ lastBelow t b → Carried (b + 1) t (set t′ b last)
-  carried-empty fits e {last} l =
+module _ {n b : ℕ} {t t′ : List ℕ} (c : Carried n b t t′) where
+  -- the next entry has a block of its own, or it gets the last one
+  pub last-full : (getD t′ b 0 ≡ 0 → ⊥) → getD t′ b 0 + n ≡ endOf n (lastBelow t (b + 1))
+  last-full ne =
       let s = c .above b (omega arith) in
+      let f = below-full t b (λ g. ne (s ∙ g)) in
+      rw f (omega (arith, s, end-some n (λ g. ne (s ∙ g))))
+
+  pub last-empty : getD t′ b 0 ≡ 0 → {last : ℕ} → last ≡ endOf n (lastBelow t b) → last ≡ endOf n (lastBelow t (b + 1))
+  last-empty e l = l ∙ ap (endOf n) (sym (below-empty t b (sym (c .above b (omega arith)) ∙ e)))
+
+  pub carried-more : b < length t′ → {last : ℕ} → last ≡ endOf n (lastBelow t (b + 1)) → Carried n (b + 1) t (set t′ b last)
+  carried-more fits {last} l =
       record {
-        below = below-more (λ (d : ℕ). getD (set t′ b last) d 0 ≡ lastBelow t (d + 1)) b
+        below = below-more (λ (d : ℕ). getD (set t′ b last) d 0 ≡ endOf n (lastBelow t (d + 1))) b
             (λ d g. getD-set-other t′ b d last 0 (omega arith) ∙ c .below d g)
-            (getD-set-same t′ b last 0 fits ∙ l ∙ sym (below-empty t b (sym s ∙ e)));
+            (getD-set-same t′ b last 0 fits ∙ l);
         above = λ d g. getD-set-other t′ b d last 0 (omega arith) ∙ c .above d (omega arith);
       }
 
--- ---- filling
+-- ---- filling, where no block stands past the entries that are filled
 
-module _ {w k : ℕ} {t t′ : List ℕ} (p : Placed w t) (c : Carried k t t′) where
+module _ {n w k : ℕ} {t t′ : List ℕ} (p : Placed w t) (c : Carried n k t t′) (rest : (b : ℕ) → k ≤ b → getD t b 0 ≡ 0) where
+  s′ : List ℕ
+  s′ = startsOf n t′
+
+  below : (b : ℕ) → b < k → getD s′ b 0 ≡ lastBelow t (b + 1)
+  unfolding s′
+  below b l = omega (arith, starts-at n t′ b, c .below b l, end-start n (lastBelow t (b + 1)))
+
+  above : (b : ℕ) → k ≤ b → getD s′ b 0 ≡ getD t b 0
+  unfolding s′
+  above b l = omega (arith, starts-at n t′ b, c .above b l, rest b l)
+
   -- an entry that had a block has it
-  stays : (b : ℕ) → (getD t b 0 ≡ 0 → ⊥) → getD t′ b 0 ≡ getD t b 0
+  stays : (b : ℕ) → (getD t b 0 ≡ 0 → ⊥) → getD s′ b 0 ≡ getD t b 0
   stays b ne = go (ltb b k) refl
     where
-      go : (x : Bool) → ltb b k ≡ x → getD t′ b 0 ≡ getD t b 0
-      go true e = c .below b (ltb-true b k e) ∙ below-full t b ne
-      go false e = c .above b (ltb-false b k e)
+      go : (x : Bool) → ltb b k ≡ x → getD s′ b 0 ≡ getD t b 0
+      go true e = below b (ltb-true b k e) ∙ below-full t b ne
+      go false e = above b (ltb-false b k e)
 
   -- every entry is one that had stood at its own page, not above it
-  comes : (b : ℕ) → (getD t′ b 0 ≡ 0 → ⊥) → (getD t′ b 0 / w + 1 ≤ b) × (getD t (getD t′ b 0 / w + 1) 0 ≡ getD t′ b 0)
+  comes : (b : ℕ) → (getD s′ b 0 ≡ 0 → ⊥) → (getD s′ b 0 / w + 1 ≤ b) × (getD t (getD s′ b 0 / w + 1) 0 ≡ getD s′ b 0)
   comes b ne = go (ltb b k) refl
     where
-      go : (x : Bool) → ltb b k ≡ x → (getD t′ b 0 / w + 1 ≤ b) × (getD t (getD t′ b 0 / w + 1) 0 ≡ getD t′ b 0)
+      go : (x : Bool) → ltb b k ≡ x → (getD s′ b 0 / w + 1 ≤ b) × (getD t (getD s′ b 0 / w + 1) 0 ≡ getD s′ b 0)
       go true e =
-          let s = c .below b (ltb-true b k e) in
+          let s = below b (ltb-true b k e) in
           let i = below-home t p (b + 1) (λ g. ne (s ∙ g)) in
           rw s (omega (arith, i .0), i .1)
       go false e =
-          let s = c .above b (ltb-false b k e) in
+          let s = above b (ltb-false b k e) in
           let o = p .own b (λ g. ne (s ∙ g)) in
           rw s (omega arith, ap (λ (x : ℕ). getD t x 0) o)
 
-  pub fill-filled : {end : ℕ} → 0 < w → ((b : ℕ) → b * w < end + w → b < k) → Filled w end t′
-  fill-filled z reach =
+  last-starts : {end : ℕ} → 0 < w → ((b : ℕ) → b * w < end + w → b < k) → LastStarts w end s′
+  last-starts z reach =
       record {
-        home = λ b ne. let i = comes b ne in (i .0, stays (getD t′ b 0 / w + 1) (λ g. ne (sym (i .1) ∙ g)) ∙ i .1);
+        home = λ b ne. let i = comes b ne in (i .0, stays (getD s′ b 0 / w + 1) (λ g. ne (sym (i .1) ∙ g)) ∙ i .1);
         last = λ b d l ne h.
             let i = comes d ne in
-            let s = c .below b (reach b l) in
-            let g = below-last t p z (b + 1) (getD t′ d 0 / w + 1) (omega arith) (λ g. ne (sym (i .1) ∙ g)) in
+            let s = below b (reach b l) in
+            let g = below-last t p z (b + 1) (getD s′ d 0 / w + 1) (omega arith) (λ g. ne (sym (i .1) ∙ g)) in
             omega (arith, s, g, i .1);
       }
 
-  pub fill-table : {h n : ℕ} {m : List ℕ} → Table h w m n t → Table h w m n t′
+  pub fill-filled : {end : ℕ} → 0 < w → ((b : ℕ) → b * w < end + w → b < k) → Filled n w end t′
+  unfolding s′
+  fill-filled z reach =
+      record {
+        past = λ b ne. go b ne (ltb b k) refl;
+        starts = last-starts z reach;
+      }
+    where
+      go : (b : ℕ) → (getD t′ b 0 ≡ 0 → ⊥) → (x : Bool) → ltb b k ≡ x → n < getD t′ b 0
+      go b ne true e = let l = c .below b (ltb-true b k e) in rw l (end-past n (lastBelow t (b + 1)) (λ g. ne (l ∙ g)))
+      go b ne false e = let l = ltb-false b k e in absurd (ne (c .above b l ∙ rest b l))
+
+  pub fill-table : {h i : ℕ} {m : List ℕ} → Table h w m i t → EndsTable n h w m i t′
+  unfolding s′
   fill-table v =
       record {
-        real = v .real;
-        sound = λ b ne. let i = comes b ne in let s = v .sound (getD t′ b 0 / w + 1) (λ g. ne (sym (i .1) ∙ g)) in (s .0, s .1, sym (i .1) ∙ s .2);
-        whole = λ i l. let q = v .whole i l in stays (block _ _ i / w + 1) (λ g. v .real i l (sym q ∙ g)) ∙ q;
+        table = record {
+          real = v .real;
+          sound = λ b ne. let i = comes b ne in let s = v .sound (getD s′ b 0 / w + 1) (λ g. ne (sym (i .1) ∙ g)) in (s .0, s .1, sym (i .1) ∙ s .2);
+          whole = λ i l. let q = v .whole i l in stays (block _ _ i / w + 1) (λ g. v .real i l (sym q ∙ g)) ∙ q;
+        };
       }
+
+-- the blocks of a chain that passes start inside the map, so no entry behind the last page has one
+module _ {r : Rule} {m : List ℕ} {used n w : ℕ} {t : List ℕ} (h : Pass r m used n) (y : 0 < r .size) (v : Table (r .head) w m n t) where
+  inside-map : (b : ℕ) → (getD t b 0 ≡ 0 → ⊥) → getD t b 0 < used
+  inside-map b ne = let s = v .sound b ne in let l = h .lies (s .0) (s .1) in omega (arith, s .2, l)
+
+  pub entry-most : (b : ℕ) → getD t b 0 ≤ used
+  entry-most b =
+      elim (ℕ-discrete (getD t b 0) 0) [
+        | yes e ↦ omega arith
+        | no e ↦ omega (arith, inside-map b e)
+      ]
+
+  pub entry-none : Placed w t → 0 < w → (b : ℕ) → (used - 1) / w + 2 ≤ b → getD t b 0 ≡ 0
+  entry-none p z b l =
+      elim (ℕ-discrete (getD t b 0) 0) [
+        | yes e ↦ e
+        | no e ↦ absurd (omega (arith, p .own b e, div-mono {a = getD t b 0} {b = used - 1} w z (omega (arith, inside-map b e))))
+      ]
 
 -- ---- a filled table
 
-pub empty-filled : (w end : ℕ) {t : List ℕ} → Empty t → Filled w end t
-empty-filled w end e = record { home = λ b ne. absurd (ne (e b)); last = λ b c l ne. absurd (ne (e c)) }
+pub empty-filled : (n w end : ℕ) {t : List ℕ} → Empty t → Filled n w end t
+empty-filled n w end {t} e =
+    let f = starts-empty n t e in
+    record {
+      past = λ b ne. absurd (ne (e b));
+      starts = record { home = λ b ne. absurd (ne (f b)); last = λ b c l ne. absurd (ne (f c)) };
+    }
 
-pub filled-less : {w end less : ℕ} {t : List ℕ} → less ≤ end → Filled w end t → Filled w less t
-filled-less l f = record { home = f .home; last = λ b c h. f .last b c (omega arith) }
+pub filled-less : {n w end less : ℕ} {t : List ℕ} → less ≤ end → Filled n w end t → Filled n w less t
+filled-less l f = record { past = f .past; starts = record { home = f .starts .home; last = λ b c h. f .starts .last b c (omega arith) } }
 
 -- what the test of a kind needs, for a block that ends earlier
 pub bounds-less : {k : Kind} {end less : ℕ} {other : List ℕ} → less ≤ end → Bounds k end other → Bounds k less other
@@ -157,7 +237,12 @@ bounds-less l b =
       other-filled = filled-less l (b .other-filled);
     }
 
-module _ {w end : ℕ} {t : List ℕ} (f : Filled w end t) (z : 0 < w) (y : 0 < end) where
+-- the last block that starts before `end`, or 0
+unfoldable lastBefore : ℕ → List ℕ → ℕ → ℕ
+lastBefore w t end =
+    cond (ltb (getD t ((end - 1) / w + 1) 0) end) (getD t ((end - 1) / w + 1) 0) (getD t ((end - 1) / w) 0)
+
+module _ {w end : ℕ} {t : List ℕ} (f : LastStarts w end t) (z : 0 < w) (y : 0 < end) where
   q : ℕ
   q = (end - 1) / w
 
@@ -174,7 +259,7 @@ module _ {w end : ℕ} {t : List ℕ} (f : Filled w end t) (z : 0 < w) (y : 0 < 
   before-there l = rw (le-ltb (getD t ((end - 1) / w + 1) 0) end l)
 
   -- the last block that starts before the end does so, and is an entry
-  pub record Last (x : ℕ) : Type 0 where
+  record Last (x : ℕ) : Type 0 where
     pub at : ℕ
     pub is : x ≡ getD t at 0
     pub starts : x < end
@@ -213,7 +298,7 @@ module _ {w end : ℕ} {t : List ℕ} (f : Filled w end t) (z : 0 < w) (y : 0 < 
             | no e ↦ omega arith
           ]
 
-  pub last-before : Last (lastBefore w t end)
+  last-before : Last (lastBefore w t end)
   last-before = go (ltb (getD t (q + 1) 0) end) refl
     where
       go : (b : Bool) → ltb (getD t (q + 1) 0) end ≡ b → Last (lastBefore w t end)
@@ -221,7 +306,7 @@ module _ {w end : ℕ} {t : List ℕ} (f : Filled w end t) (z : 0 < w) (y : 0 < 
       go false e = let l = ltb-false (getD t (q + 1) 0) end e in rw (before-there l) (there l)
 
 -- it settles whether a block meets a range that ends there
-module _ {w : ℕ} {t : List ℕ} (n p len : ℕ) (f : Filled w (p + len) t) (z : 0 < w) (x : 0 < n) (y : 0 < len) where
+module _ {w : ℕ} {t : List ℕ} (n p len : ℕ) (f : LastStarts w (p + len) t) (z : 0 < w) (x : 0 < n) (y : 0 < len) where
   v : Last f z (omega arith) (lastBefore w t (p + len))
   v = last-before f z (omega arith)
 
@@ -241,10 +326,10 @@ module _ {w : ℕ} {t : List ℕ} (n p len : ℕ) (f : Filled w (p + len) t) (z 
   unfolding share
   reaches s l h = lt-ltb (max s p) (min (s + n) (p + len)) (omega arith)
 
-  pub meets-none : lastBefore w t (p + len) ≡ 0 → tableMeets n t p len ≡ false
+  meets-none : lastBefore w t (p + len) ≡ 0 → tableMeets n t p len ≡ false
   meets-none e = unmet (λ c ne l. absurd (ne (omega (arith, v .most c ne l))))
 
-  pub meets-last : (lastBefore w t (p + len) ≡ 0 → ⊥) → tableMeets n t p len ≡ ltb p (lastBefore w t (p + len) + n)
+  meets-last : (lastBefore w t (p + len) ≡ 0 → ⊥) → tableMeets n t p len ≡ ltb p (lastBefore w t (p + len) + n)
   meets-last ne = go (ltb p (lastBefore w t (p + len) + n)) refl
     where
       go : (b : Bool) → ltb p (lastBefore w t (p + len) + n) ≡ b → tableMeets n t p len ≡ b
@@ -254,3 +339,40 @@ module _ {w : ℕ} {t : List ℕ} (n p len : ℕ) (f : Filled w (p + len) t) (z 
       go false e =
           let l = ltb-false p (lastBefore w t (p + len) + n) e in
           unmet (λ c nc g. omega (arith, l, v .most c nc g))
+
+-- ---- the end of that block
+
+module _ (n w : ℕ) (t : List ℕ) (end : ℕ) where
+  -- it ends where the last start tells
+  end-of-last : 0 < end → lastEnd n w t end - n ≡ lastBefore w (startsOf n t) end
+  unfolding lastEnd lastBefore
+  end-of-last y = go (ltb (getD t ((end - 1) / w + 1) 0) (end + n)) refl
+    where
+      i : getD (startsOf n t) ((end - 1) / w + 1) 0 ≡ getD t ((end - 1) / w + 1) 0 - n
+      i = starts-at n t ((end - 1) / w + 1)
+      go : (b : Bool) → ltb (getD t ((end - 1) / w + 1) 0) (end + n) ≡ b → lastEnd n w t end - n ≡ lastBefore w (startsOf n t) end
+      go true e =
+          let l = ltb-true (getD t ((end - 1) / w + 1) 0) (end + n) e in
+          rw (e, lt-ltb (getD (startsOf n t) ((end - 1) / w + 1) 0) end (omega (arith, i))) (sym i)
+      go false e =
+          let l = ltb-false (getD t ((end - 1) / w + 1) 0) (end + n) e in
+          rw (e, le-ltb (getD (startsOf n t) ((end - 1) / w + 1) 0) end (omega (arith, i))) (sym (starts-at n t ((end - 1) / w)))
+
+  end-is-past : ((b : ℕ) → (getD t b 0 ≡ 0 → ⊥) → n < getD t b 0) → (lastEnd n w t end ≡ 0 → ⊥) → n < lastEnd n w t end
+  unfolding lastEnd
+  end-is-past past ne = go (ltb (getD t ((end - 1) / w + 1) 0) (end + n)) refl
+    where
+      go : (b : Bool) → ltb (getD t ((end - 1) / w + 1) 0) (end + n) ≡ b → n < lastEnd n w t end
+      go true e = let i : lastEnd n w t end ≡ getD t ((end - 1) / w + 1) 0 = rw e in rw i (past ((end - 1) / w + 1) (λ g. ne (i ∙ g)))
+      go false e = let i : lastEnd n w t end ≡ getD t ((end - 1) / w) 0 = rw e in rw i (past ((end - 1) / w) (λ g. ne (i ∙ g)))
+
+pub meets-end : {w : ℕ} {t : List ℕ} (n p len : ℕ) → Filled n w (p + len) t → 0 < w → 0 < n → 0 < len → endsMeet n t p len ≡ ltb p (lastEnd n w t (p + len))
+meets-end {w} {t} n p len f z x y =
+    let i = end-of-last n w t (p + len) (omega arith) in
+    elim (ℕ-discrete (lastEnd n w t (p + len)) 0) [
+      | yes e ↦ meets-none n p len (f .starts) z x y (omega arith) ∙ sym (le-ltb p (lastEnd n w t (p + len)) (omega arith))
+      | no e ↦
+          let l = end-is-past n w t (p + len) (f .past) e in
+          let j : lastBefore w (startsOf n t) (p + len) + n ≡ lastEnd n w t (p + len) = omega arith in
+          meets-last n p len (f .starts) z x y (λ g. omega arith) ∙ ap (ltb p) j
+    ]

@@ -3,7 +3,7 @@
 use Prim.Native.Nat.{ℕ, zero, suc, _+_, _-_, _/_, _≤_, _<_}
 use mathlib.Core.Bool.{Bool, true, false, _||_}
 use mathlib.Core.Path.{_≡_, refl, sym, ap, _∙_, fun-ext}
-use mathlib.Core.List.{List}
+use mathlib.Core.List.{List, [], _∷_}
 use borrow.Author.Count.{below-none, below-more}
 use borrow.Author.Tests.{ltb-true, ltb-false, eq-eqb, ne-eqb}
 use native.Mathlib.Nat.{lt-of-not-le}
@@ -18,7 +18,7 @@ use Rattle.numbers.proofs.Below.{any-at, any-none, any-false, any-true, never}
 use Rattle.numbers.proofs.Ranges.{share-before, share-after, share-empty, share-comm, share-no}
 use Rattle.chain.specs.declared.Kind.{Kind}
 use Rattle.chain.specs.Chains.{block, meetsBlock}
-use Rattle.chain.specs.Tables.{Empty, Placed, Table, entryMeets, tableMeets, keepsOff, kindRule, Ready}
+use Rattle.chain.specs.Tables.{Empty, Placed, Table, startsOf, entryMeets, tableMeets, endsMeet, keepsOff, kindRule, Ready}
 use Rattle.chain.proofs.Pigeon.{div-lt, div-near}
 
 -- ---- an entry
@@ -87,6 +87,16 @@ empty-placed w e = record { own = λ b h. absurd (h (e b)) }
 pub empty-meets : (n : ℕ) (t : List ℕ) → Empty t → (p len : ℕ) → tableMeets n t p len ≡ false
 unfolding tableMeets
 empty-meets n t e p len = any-none (entryMeets n t p len) (length t) (λ b l. entry-empty n t p len b (e b))
+
+-- the starts of an empty table are none
+pub starts-at : (n : ℕ) (t : List ℕ) (b : ℕ) → getD (startsOf n t) b 0 ≡ getD t b 0 - n
+unfolding startsOf
+starts-at n [] b = omega arith
+starts-at n (e ∷ t) zero = refl
+starts-at n (e ∷ t) (suc b) = starts-at n t b
+
+pub starts-empty : (n : ℕ) (t : List ℕ) → Empty t → Empty (startsOf n t)
+starts-empty n t e b = omega (arith, starts-at n t b, e b)
 
 pub table-none : (h w : ℕ) (m : List ℕ) {t : List ℕ} → Empty t → Table h w m 0 t
 table-none h w m {t} e =
@@ -198,13 +208,13 @@ module _ (k : Kind) (other : List ℕ) where
   unfolding keepsOff
   rule-ranges e =
       rule-from (λ p. share (k .first) (k .«first_size») p (k .size) || share (k .second) (k .«second_size») p (k .size))
-      (λ p. rw (empty-meets (k .«other_size») other e p (k .size), or-false (share (k .second) (k .«second_size») p (k .size))))
+      (λ p. rw (empty-meets (k .«other_size») (startsOf (k .«other_size») other) (starts-empty (k .«other_size») other e) p (k .size), or-false (share (k .second) (k .«second_size») p (k .size))))
 
   -- where the two ranges are empty, the other table is left
-  pub rule-other : k .«first_size» ≡ 0 → k .«second_size» ≡ 0 → kindRule k other ≡ record { head = k .head; size = k .size; taboo = λ p. tableMeets (k .«other_size») other p (k .size) }
+  pub rule-other : k .«first_size» ≡ 0 → k .«second_size» ≡ 0 → kindRule k other ≡ record { head = k .head; size = k .size; taboo = λ p. endsMeet (k .«other_size») other p (k .size) }
   unfolding keepsOff
   rule-other e f =
-      rule-from (λ p. tableMeets (k .«other_size») other p (k .size))
+      rule-from (λ p. endsMeet (k .«other_size») other p (k .size))
       (λ p. rw (none (k .first) p e, none (k .second) p f))
     where
       none : (a p : ℕ) {s : ℕ} → s ≡ 0 → share a s p (k .size) ≡ false

@@ -3,9 +3,9 @@ use numbers::u32_at;
 use records::Header;
 ghost use mathlib.Core.Path.{_≡_};
 ghost use Prim.Native.Nat.{ℕ, _+_, _-_, _*_, _%_, _≤_, _<_};
-ghost use lib.ListN.{length};
+ghost use lib.ListN.{length, getD};
 ghost use Rattle.chain.specs.Chains.{block, walked, taken};
-ghost use Rattle.chain.specs.Tables.{Empty, Placed, Table, Carried, Filled, lastBefore, entryMeets, tableMeets, keepsOff, kindRule, goodBlock, Bounds, Ready};
+ghost use Rattle.chain.specs.Tables.{Empty, Placed, Table, Carried, Filled, lastEnd, entryMeets, tableMeets, endsMeet, keepsOff, kindRule, goodBlock, Bounds, Ready};
 ghost use Rattle.chain.specs.Cells.{cellAt, Ordered};
 
 // What a walk answers: the number of blocks; or the place of the first link at fault, and the number of blocks before it.
@@ -65,43 +65,40 @@ fn meets_taken(t: &[u32], page: usize, size: usize, start: usize, len: usize) ->
     false
 }
 
-// Fills the first k entries: one that has no block gets the one before it, so that each has the last block that starts before its page.
-pub fn fill(t: &mut [u32], k: usize)
-    requires { ⌜ k ≤ length (now t) ⌝ }
-    ensures { λ r. ⌜ Carried k (now (t .entry)) (now (t .exit)) ⌝ }
+// Fills the first k entries of a table of blocks of `size` bytes: each gets the end of the last block that stands there or before it.
+pub fn fill(t: &mut [u32], k: usize, size: u32)
+    requires { ⌜ (k ≤ length (now t)) × ((b : ℕ) → getD (now t) b 0 + size < 4294967296) ⌝ }
+    ensures { λ r. ⌜ Carried size k (now (t .entry)) (now (t .exit)) ⌝ }
 {
     let mut last = 0;
     let mut b = 0;
     while b < k {
-        if t[b] == 0 {
-            t[b] = last;
+        if t[b] != 0 {
+            last = t[b] + size;
         }
-        last = t[b];
+        t[b] = last;
         b += 1;
     }
 }
 
-// The last block of a filled table that starts before `end`, or 0.
-fn last_before(t: &[u32], page: usize, end: usize) -> usize
-    requires { ⌜ (0 < page) × (0 < end) × (end + page ≤ length (now t) * page) ⌝ }
-    ensures { λ r. ⌜ (r ≡ lastBefore page (now (t .entry)) end) × (r < 4294967296) ⌝ }
+// The end of the last block of a filled table that starts before `end`, or 0.
+fn last_end(t: &[u32], page: usize, size: usize, end: usize) -> usize
+    requires { ⌜ (0 < page) × (size ≤ 65536) × (0 < end) × (end ≤ 16777216) × (end + page ≤ length (now t) * page) ⌝ }
+    ensures { λ r. ⌜ r ≡ lastEnd size page (now (t .entry)) end ⌝ }
 {
     let b = (end - 1) / page;
     let before = wide(t[b]);
     let here = wide(t[b + 1]);
-    if here < end { here } else { before }
+    if here < end + size { here } else { before }
 }
 
-// Whether some block of a filled table shares a byte with the range, whatever its length: the last block that starts before the range's end also ends last.
+// Whether some block of a filled table shares a byte with the range, whatever its length: of the blocks that start before the range's end the last one also
+// ends last.
 pub fn meets_block(t: &[u32], page: usize, size: usize, start: usize, len: usize) -> bool
-    requires { ⌜ (0 < page) × (0 < size) × (size ≤ 65536) × (0 < len) × (start + len ≤ 16777216) × (start + len + page ≤ length (now t) * page) × Filled page (start + len) (now t) ⌝ }
-    ensures { λ r. ⌜ r ≡ tableMeets size (now (t .entry)) start len ⌝ }
+    requires { ⌜ (0 < page) × (0 < size) × (size ≤ 65536) × (0 < len) × (start + len ≤ 16777216) × (start + len + page ≤ length (now t) * page) × Filled size page (start + len) (now t) ⌝ }
+    ensures { λ r. ⌜ r ≡ endsMeet size (now (t .entry)) start len ⌝ }
 {
-    let last = last_before(t, page, start + len);
-    if last == 0 {
-        return false;
-    }
-    start < last + size
+    start < last_end(t, page, size, start + len)
 }
 
 // Whether a block at p would meet what its kind keeps off.

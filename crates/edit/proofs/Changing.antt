@@ -18,7 +18,7 @@ use Rattle.records.specs.Sizes.{indexBlockSize, indexPage}
 use Rattle.records.specs.Headers.{indexHead}
 use Rattle.records.specs.Journals.{recordFor}
 use Rattle.chain.specs.Chains.{block}
-use Rattle.chain.specs.Tables.{Filled, Table, tableMeets}
+use Rattle.chain.specs.Tables.{Filled, EndsTable, endsMeet}
 use Rattle.chain.specs.Cells.{Ordered}
 use Rattle.chain.proofs.Chains.{few}
 use Rattle.accept.specs.declared.Verdict.{Verdict}
@@ -71,7 +71,7 @@ accepted-one : {v : Verdict} {b n : ℕ} → v ≡ verdicts.Accepted b → v ≡
 accepted-one p q = cc
 
 pub known-by : {m : List ℕ} {used b : ℕ} {index order : List ℕ} {v : Verdict} → v ≡ verdicts.Accepted b
-    → Filled indexPage used index × Table indexHead indexPage m b index → Ordered indexHead m b order
+    → Filled indexBlockSize indexPage used index × EndsTable indexBlockSize indexHead indexPage m b index → Ordered indexHead m b order
     → (n : ℕ) → v ≡ verdicts.Accepted n → Known m used n index order
 known-by p t o n q = let e = accepted-one p q in record { filled = t .0; table = rw e at (t .1); ordered = rw e at o }
 
@@ -219,8 +219,8 @@ module _ {m : List ℕ} {used n : ℕ} (h : Holds m used n) (bytes : Bytes m) (s
           good-room (touches m n) m used (versionOf m) (resym (slotIn m s) (objectSym m s))
           ∙ sym (accepted-good h s l (objectSym m s) sym-fits (eqb-false (objectSym m s) 0 e) len-not)
 
-  pub reinstate-by : {index : List ℕ} → Table indexHead indexPage m n index
-      → symToReinstate (tableMeets indexBlockSize index) m used (slotIn m s) ≡ cond (canReinstate m used n s) (Write (objectSym m s)) None
+  pub reinstate-by : {index : List ℕ} → EndsTable indexBlockSize indexHead indexPage m n index
+      → symToReinstate (endsMeet indexBlockSize index) m used (slotIn m s) ≡ cond (canReinstate m used n s) (Write (objectSym m s)) None
   unfolding symToReinstate good objectSym
   reinstate-by w = rw (same-touch w, ← tests-agree)
 

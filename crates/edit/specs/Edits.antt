@@ -24,7 +24,7 @@ use Rattle.records.specs.Headers.{indexHead}
 use Rattle.records.specs.Slots.{slotBytes}
 use Rattle.records.specs.Journals.{recordFor}
 use Rattle.chain.specs.Chains.{place}
-use Rattle.chain.specs.Tables.{Filled, Table}
+use Rattle.chain.specs.Tables.{Filled, EndsTable}
 use Rattle.chain.specs.Cells.{Ordered}
 use Rattle.accept.specs.declared.Verdict.{Verdict}
 use Rattle.accept.specs.declared.Verdict.the-variants as verdicts
@@ -97,8 +97,8 @@ begun m used j e repeat fresh = after m j repeat fresh (startOf m used j e)
 
 -- what the tables that an edit fills tell of a map with n index blocks
 pub record Known (m : List ℕ) (used n : ℕ) (index order : List ℕ) : Type 0 where
-  pub filled : Filled indexPage used index
-  pub table : Table indexHead indexPage m n index
+  pub filled : Filled indexBlockSize indexPage used index
+  pub table : EndsTable indexBlockSize indexHead indexPage m n index
   pub ordered : Ordered indexHead m n order
 
 -- ---- remove and reinstate

@@ -37,7 +37,7 @@ ghost use Rattle.records.specs.Sizes.{headerSize, indexBlockSize, indexPage, sl
 ghost use Rattle.records.specs.Headers.{indexHead};
 ghost use Rattle.records.specs.Slots.{slotOf, slotBytes};
 ghost use Rattle.chain.specs.Chains.{place, walked};
-ghost use Rattle.chain.specs.Tables.{Empty, Filled, tableMeets};
+ghost use Rattle.chain.specs.Tables.{Empty, Filled, endsMeet};
 ghost use Rattle.chain.specs.Cells.{Ordered};
 ghost use Rattle.chain.specs.declared.Walk.the-variants.{Blocks};
 ghost use Rattle.accept.specs.Rules.{indexRule, slotAt};
@@ -185,8 +185,8 @@ pub enum NewSym {
 
 // The Sym that reinstates an erased slot.
 fn sym_to_reinstate(m: &[u8], used: usize, index: &[u32], t: Slot) -> NewSym
-    requires { ⌜ (headerSize ≤ used) × (used ≤ mapLimit) × (used ≤ length (now m)) × (used + indexPage ≤ length (now index) * indexPage) × Filled indexPage used (now index) ⌝ }
-    ensures { λ r. ⌜ r ≡ symToReinstate (tableMeets indexBlockSize (now (index .entry))) (now (m .entry)) used t ⌝ }
+    requires { ⌜ (headerSize ≤ used) × (used ≤ mapLimit) × (used ≤ length (now m)) × (used + indexPage ≤ length (now index) * indexPage) × Filled indexBlockSize indexPage used (now index) ⌝ }
+    ensures { λ r. ⌜ r ≡ symToReinstate (endsMeet indexBlockSize (now (index .entry))) (now (m .entry)) used t ⌝ }
 {
     let at = t.position as usize;
     if used < at + 2 {

@@ -5,13 +5,13 @@ use mathlib.Core.Path.{_≡_, sym, ap, subst, _∙_}
 use lib.ListN.{replicate}
 use denote.Ref.{now}
 use borrow.Author.Needs.{needs}
-use Rattle.records.specs.Sizes.{indexPage}
+use Rattle.records.specs.Sizes.{indexBlockSize, indexPage}
 use Rattle.records.specs.Headers.{indexHead}
 use Rattle.chain.specs.declared.Kind.{Kind}
 use Rattle.chain.specs.declared.Walk.{Walk}
 use Rattle.chain.specs.declared.Walk.the-variants.{Blocks, Fault}
 use Rattle.chain.specs.Chains.{walked, taken}
-use Rattle.chain.specs.Tables.{Placed, Table}
+use Rattle.chain.specs.Tables.{Placed, Table, EndsTable}
 use Rattle.chain.proofs.Tables.{zeros}
 use Rattle.chain.proofs.Walking.{table-of}
 use Rattle.accept.specs.Rules.{indexRule}
@@ -69,7 +69,7 @@ returns c =
       e .0 ∙ ap (λ (x : Walk). withFree (now (a .m)) (afterIndex (now (a .m)) (a .used) x)) (sym (whole w)),
       λ n f h.
           let q = after-tells (now (a .m)) (a .used) (Blocks (w .w .given .0 .0)) (sym (verdict-of (now (a .m)) (afterIndex (now (a .m)) (a .used) (Blocks (w .w .given .0 .0))) (e .0)) ∙ ap plain h) .0 in
-          (e .1, subst (λ (x : Walk). Table indexHead indexPage (now (a .m)) (blocksIn x) (c .before .before .judge-rest .last .1 .1 .0)) q (e .2)),
+          (e .1, subst (λ (x : Walk). EndsTable indexBlockSize indexHead indexPage (now (a .m)) (blocksIn x) (c .before .before .judge-rest .last .1 .1 .0)) q (e .2)),
     )
 
 returns-2 : tie.Need-returns-2

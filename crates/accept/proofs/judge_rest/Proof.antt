@@ -1,28 +1,46 @@
 -- `accept::judge_rest` meets its contract: filling keeps the blocks. Assumes nothing.
 use native.Mathlib.Omega.{arith}
+use Prim.Native.Nat.{ℕ, _+_, _-_, _/_, _≤_}
+use mathlib.Core.Path.{_≡_}
 use borrow.Author.Needs.{needs}
 use denote.Ref.{now}
-use Rattle.records.specs.Sizes.{indexPage}
-use Rattle.chain.specs.Tables.{Filled}
-use Rattle.chain.proofs.Filling.{fill-filled, fill-table}
+use lib.ListN.{getD}
+use Rattle.records.specs.Sizes.{indexBlockSize, indexPage}
+use Rattle.records.specs.Headers.{indexHead}
+use Rattle.chain.specs.Tables.{Filled, EndsTable}
+use Rattle.chain.proofs.Chains.{Pass, walked-pass}
+use Rattle.chain.proofs.Filling.{fill-filled, fill-table, entry-most, entry-none}
+use Rattle.accept.specs.Rules.{indexRule}
 use Rattle.accept.proofs.judge_rest.Statement.{statement}
 use Rattle.accept.proofs.judge_rest.Tie as tie
 
--- every page that starts inside the map has its entry filled
-filled : (c : tie.After-fill) → Filled indexPage (c .before .before .before .before .args .used) (c .fill .last .0)
-filled c = fill-filled (c .before .before .before .before .pre .5) (c .fill .ensures) (omega arith) (λ b l. omega arith)
+pass : (s : tie.Start) → Pass (indexRule (now (s .args .m))) (now (s .args .m)) (s .args .used) (s .args .n)
+pass s = walked-pass (indexRule (now (s .args .m))) (now (s .args .m)) (s .args .used) (s .pre .4)
+
+fill-requires : tie.Need-fill-requires
+fill-requires c κs =
+    let s = c .before .before .before in
+    (omega (arith, s .pre .1, s .pre .3), λ b. omega (arith, s .pre .1, entry-most (pass s) (omega arith) (s .pre .6) b))
+
+-- no block stands past the last page
+none : (s : tie.Start) (b : ℕ) → (s .args .used - 1) / indexPage + 2 ≤ b → getD (now (s .args .index)) b 0 ≡ 0
+none s = entry-none (pass s) (omega arith) (s .pre .6) (s .pre .5) (omega arith)
+
+-- so every page that starts inside the map has its entry filled, and the table has the blocks
+filled : (c : tie.After-fill) → Filled indexBlockSize indexPage (c .before .before .before .before .args .used) (c .fill .last .0)
+filled c = let s = c .before .before .before .before in fill-filled (s .pre .5) (c .fill .ensures) (none s) (omega arith) (λ b l. omega arith)
+
+table : (c : tie.After-fill) → EndsTable indexBlockSize indexHead indexPage (now (c .before .before .before .before .args .m)) (c .before .before .before .before .args .n) (c .fill .last .0)
+table c = let s = c .before .before .before .before in fill-table (s .pre .5) (c .fill .ensures) (none s) (s .pre .6)
 
 judge-objects-requires : tie.Need-judge-objects-requires
 judge-objects-requires c κs =
     let f = c .before .before .before in
     let s = f .before .before .before .before in
-    (s .pre .0, s .pre .1, s .pre .2, omega (arith, s .pre .3, f .fill .kept .0), s .pre .4, filled f, fill-table (s .pre .5) (f .fill .ensures) (s .pre .6))
+    (s .pre .0, s .pre .1, s .pre .2, omega (arith, s .pre .3, f .fill .kept .0), s .pre .4, filled f, table f)
 
 returns : tie.Need-returns
-returns c =
-    let f = c .before .before .before .before in
-    let s = f .before .before .before .before in
-    (c .judge-objects .ensures, filled f, fill-table (s .pre .5) (f .fill .ensures) (s .pre .6))
+returns c = let f = c .before .before .before .before in (c .judge-objects .ensures, filled f, table f)
 
 pub judge-rest-spec : {M : Type 1} → statement M
 judge-rest-spec =
@@ -30,7 +48,8 @@ judge-rest-spec =
     (tie.spec
     (λ c. search needs)
     (λ c. search needs)
-    (λ c κs. search needs)
+    (λ c. search needs)
+    fill-requires
     judge-objects-requires
     (λ c. search needs)
     returns)

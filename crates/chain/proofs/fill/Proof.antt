@@ -1,4 +1,4 @@
--- `chain::fill` meets its contract. The loop's invariant: the first b entries are filled, and `last` is the last one below b. Assumes nothing.
+-- `chain::fill` meets its contract. The loop's invariant: the first b entries are filled, and `last` is the end of the last block below b. Assumes nothing.
 use native.Mathlib.Omega.{arith}
 use Prim.Native.Nat.{ℕ, _+_, _-_, _≤_, _<_}
 use mathlib.Core.Path.{_≡_, refl, sym, ap, _∙_}
@@ -6,40 +6,43 @@ use mathlib.Core.Logic.{⊎-elim}
 use lib.ListN.{length, length-set}
 use borrow.Author.Needs.{needs}
 use denote.Ref.{now}
-use Rattle.chain.specs.Tables.{lastBelow, Carried}
-use Rattle.chain.proofs.Filling.{carried-none, carried-full, carried-empty}
+use Rattle.chain.specs.Tables.{lastBelow, endOf, Carried}
+use Rattle.chain.proofs.Filling.{carried-none, carried-more, last-none, last-full, last-empty}
 use Rattle.chain.proofs.fill.Statement.{statement}
 use Rattle.chain.proofs.fill.Tie as tie
 
 abbrev Inv-loop : tie.InvT-loop
-Inv-loop t₀ k last₀ b₀ t last b = (b ≤ k) × (length t ≡ length t₀) × (last ≡ lastBelow t₀ b) × Carried b t₀ t
+Inv-loop t₀ k size last₀ b₀ t last b = (b ≤ k) × (length t ≡ length t₀) × (last ≡ endOf size (lastBelow t₀ b)) × Carried size b t₀ t
 
 abbrev μ-loop : tie.MeasureT-loop
-μ-loop t₀ k last₀ b₀ t last b = k - b
+μ-loop t₀ k size last₀ b₀ t last b = k - b
 
 loop-holds : tie.Need-loop-holds Inv-loop μ-loop
-unfolding lastBelow
-loop-holds c = (omega arith, refl, refl, carried-none _)
+loop-holds c = (omega arith, refl, last-none _ _, carried-none _ _)
 
-last-is : (c : tie.After-loop Inv-loop μ-loop) → c .before .loop .b ≡ c .before .before .args .k
-last-is c = omega arith
+add-last : tie.Need-add-last Inv-loop μ-loop
+add-last c =
+    let l = c .before .before .before .before in
+    omega (arith, l .loop .inv .3 .above (l .loop .b) (omega arith), l .before .pre .1 (l .loop .b))
 
--- the turn's entry is filled
-turn : (c : tie.Joined1 Inv-loop μ-loop) → (length (c .if1 .t) ≡ length (now (c .before .before .before .before .args .t))) × Carried (c .before .before .before .loop .b + 1) (now (c .before .before .before .before .args .t)) (c .if1 .t)
-turn c =
+-- the end of the last block, the turn's entry among them
+last : (c : tie.Joined1 Inv-loop μ-loop) → c .if1 .last ≡ endOf (c .before .before .before .before .args .size) (lastBelow (now (c .before .before .before .before .args .t)) (c .before .before .before .loop .b + 1))
+last c =
     let l = c .before .before .before .loop in
     ⊎-elim
-    (λ w. rw (w .1) (simp length-set (l .inv .1), carried-empty (l .inv .3) (omega arith) (w .0 .taken) (l .inv .2)))
-    (λ w. rw (w .1) (l .inv .1, carried-full (l .inv .3) (w .0 .left)))
+    (λ w. w .2 ∙ last-full (l .inv .3) (w .0 .taken))
+    (λ w. w .1 ∙ last-empty (l .inv .3) (w .0 .left) (l .inv .2))
     (c .if1 .came)
 
 loop-again : tie.Need-loop-again Inv-loop μ-loop
 loop-again c =
-    let f = turn (c .before) in
-    (omega arith, f .0, f .1 .below (c .before .before .before .before .loop .b) (omega arith), f .1)
+    let l = c .before .before .before .loop in
+    (omega arith, simp length-set (l .inv .1), last c, carried-more (l .inv .3) (omega arith) (last c))
 
 returns : tie.Need-returns Inv-loop μ-loop
-returns c = rw (← last-is c) (c .before .loop .inv .3)
+returns c =
+    let e : c .before .loop .b ≡ c .before .before .args .k = omega arith in
+    rw (← e) (c .before .loop .inv .3)
 
 pub fill-spec : {M : Type 1} → statement M
 fill-spec =
@@ -52,8 +55,9 @@ fill-spec =
     (λ c. omega arith)
     (λ c. omega arith)
     (λ c. omega arith)
-    (λ c. omega (arith, turn c .0))
-    (λ c. omega (arith, turn (c .before) .0))
+    add-last
+    (λ c. omega arith)
+    (λ c. omega arith)
     (λ c. omega arith)
     (λ c. omega arith)
     loop-again

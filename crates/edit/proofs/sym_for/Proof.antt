@@ -8,7 +8,7 @@ use Rattle.records.specs.declared.Found.{Found}
 use Rattle.records.specs.declared.State.the-variants.{Erased, Live}
 use Rattle.records.specs.Slots.{foundAt, stateOf}
 use Rattle.records.specs.Sizes.{indexBlockSize}
-use Rattle.chain.specs.Tables.{tableMeets}
+use Rattle.chain.specs.Tables.{endsMeet}
 use Rattle.accept.specs.Rules.{slotAt}
 use Rattle.accept.proofs.Accepting.{Holds, accepted-tells}
 use Rattle.accept.proofs.Writes.{slot-lies}
@@ -99,7 +99,7 @@ returns-6 c =
     let e = found k .0 ∙ c .before .before .enum-told3 .given .1 in
     let w = reinstate-by (holds s) (λ i. b .shared-slice-known .given i .fits) (a .at) (k .before .before .if1 .left) e (s .pre .1 .table) in
     c .sym-to-reinstate .ensures
-    ∙ ap (λ (t : Slot). symToReinstate (tableMeets indexBlockSize (now (a .index))) m (a .used) t) (sym (found k .1))
+    ∙ ap (λ (t : Slot). symToReinstate (endsMeet indexBlockSize (now (a .index))) m (a .used) t) (sym (found k .1))
     ∙ w
     ∙ sym (sym-reinstate (a .kind) m (a .used) (a .n) (a .at) (c .before .if3 .left))
 
