@@ -409,7 +409,11 @@ fn judge_rest(m: &[u8], used: usize, index: &mut [u32], n: usize) -> Examined
     requires { ⌜ (headerSize ≤ used) × (used ≤ mapLimit) × (used ≤ length (now m)) × (used + indexPage ≤ length (now index) * indexPage) × (walked (indexRule (now m)) (now m) used ≡ Blocks n) × Placed indexPage (now index) × Table indexHead indexPage (now m) n (now index) ⌝ }
     ensures { λ r. ⌜ (r ≡ withFree (now (m .entry)) (afterIndex (now (m .entry)) used (Blocks n))) × Filled indexBlockSize indexPage used (now (index .exit)) × EndsTable indexBlockSize indexHead indexPage (now (m .entry)) n (now (index .exit)) ⌝ }
 {
-    fill(index, (used - 1) / IndexBlock::PAGE + 2, IndexBlock::SIZE as u32);
+    fill(
+        index,
+        (used - 1) / IndexBlock::PAGE + 2,
+        IndexBlock::SIZE as u32,
+    );
     judge_objects(m, used, index, n)
 }
 

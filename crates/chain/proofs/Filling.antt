@@ -350,6 +350,7 @@ module _ (n w : ℕ) (t : List ℕ) (end : ℕ) where
     where
       i : getD (startsOf n t) ((end - 1) / w + 1) 0 ≡ getD t ((end - 1) / w + 1) 0 - n
       i = starts-at n t ((end - 1) / w + 1)
+
       go : (b : Bool) → ltb (getD t ((end - 1) / w + 1) 0) (end + n) ≡ b → lastEnd n w t end - n ≡ lastBefore w (startsOf n t) end
       go true e =
           let l = ltb-true (getD t ((end - 1) / w + 1) 0) (end + n) e in

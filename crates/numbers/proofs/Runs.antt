@@ -1,17 +1,22 @@
--- A turn of each loop over a run of bytes: of `sameBytes`, of a copy, and of a fill with zeros.
+-- The laws of the loops over a run of bytes: of a comparison, of a copy, and of a fill with zeros.
 -- Assumes nothing.
-use mathlib.Core.Path.{_≡_, refl, ap, _∙_}
+use mathlib.Core.Path.{_≡_, refl, sym, ap, _∙_}
+use mathlib.Core.Logic.{⊎-elim}
 use mathlib.Core.List.{List, [], _∷_}
-use mathlib.Core.Bool.{false, _&&_, and-false}
-use Prim.Native.Nat.{ℕ, zero, suc, _+_, _<_}
+use mathlib.Core.Bool.{Bool, true, false, _&&_, and-false, and-eq-true-iff}
+use Prim.Native.Nat.{ℕ, zero, suc, _+_, _≤_, _<_}
+use native.Mathlib.Decide.{ℕ-discrete}
+use borrow.Author.Tests.{eqb-true, eq-eqb}
 use native.Mathlib.Numerals.{add-one}
 use native.Mathlib.Omega.{arith}
 use lib.Dec.{eqb}
-use lib.ListN.{length, getD, take, drop, set, replicate, length-replicate, replicate-append-replicate}
-use lib.Seq.{drop-cons, take-suc, length-take-le, sets}
+use lib.ListN.{length, getD, take, set, replicate, length-replicate, replicate-append-replicate}
+use lib.Seq.{take-suc, length-take-le, sets}
 use native.Mathlib.Nat.{zero-add}
 use Rattle.numbers.proofs.Bytes.{sets-snoc}
-use Rattle.numbers.specs.Bytes.{sameBytes}
+use Rattle.numbers.proofs.Below.{never}
+use Rattle.numbers.proofs.Coordinates.{lt-or-ge}
+use Rattle.numbers.specs.Bytes.{sameBytes, Alike, Tells}
 
 -- lists of two lengths are not the same
 pub same-not : (a b : List ℕ) → (length a ≡ length b → ⊥) → sameBytes a b ≡ false
@@ -21,11 +26,116 @@ same-not [] (y ∷ ys) h = refl
 same-not (x ∷ xs) [] h = refl
 same-not (x ∷ xs) (y ∷ ys) h = rw (same-not xs ys (λ e. h (ap suc e))) (and-false (eqb x y))
 
--- a turn: the rest from i on, by the byte at i and the rest from i + 1 on
-pub same-step : (a b : List ℕ) (i : ℕ) → i < length a → i < length b
-    → sameBytes (drop i a) (drop i b) ≡ eqb (getD a i 0) (getD b i 0) && sameBytes (drop (i + 1) a) (drop (i + 1) b)
+-- ---- tests that tell
+
+pub tells-both : {x y : Bool} {P Q : Type 0} → Tells x P → Tells y Q → Tells (x && y) (P × Q)
+tells-both {x} {y} f g =
+    record {
+      so = λ e. let h = and-eq-true-iff x y .0 e in (f .so (h .0), g .so (h .1));
+      answers = λ h. and-eq-true-iff x y .1 (f .answers (h .0), g .answers (h .1));
+    }
+
+pub tells-same : {x : Bool} {P Q : Type 0} → (P → Q) → (Q → P) → Tells x P → Tells x Q
+tells-same to from f = record { so = λ e. to (f .so e); answers = λ q. f .answers (from q) }
+
+pub eq-tells : (x y : ℕ) → Tells (eqb x y) (x ≡ y)
+eq-tells x y = record { so = eqb-true x y; answers = eq-eqb x y }
+
+-- two tests of one thing
+tells-is : (x y : Bool) {P : Type 0} → Tells x P → Tells y P → x ≡ y
+tells-is true y f g = sym (g .answers (f .so refl))
+tells-is false true f g = f .answers (g .so refl)
+tells-is false false f g = refl
+
+-- ---- what is alike
+
+module _ (a b : List ℕ) where
+  pub alike-none : (lo : ℕ) → Tells true (Alike a b lo lo)
+  alike-none lo = record { so = λ e i l h. absurd (omega arith); answers = λ f. refl }
+
+  -- one element more
+  alike-more : (lo hi next : ℕ) → lo ≤ hi → next ≡ hi + 1 → Alike a b lo hi → getD a hi 0 ≡ getD b hi 0 → Alike a b lo next
+  alike-more lo hi next l n f e i g h =
+      elim (ℕ-discrete i hi) [
+        | yes q ↦ rw q e
+        | no q ↦ f i g (omega arith)
+      ]
+
+  alike-less : (lo hi next : ℕ) → lo ≤ hi → next ≡ hi + 1 → Alike a b lo next → Alike a b lo hi × (getD a hi 0 ≡ getD b hi 0)
+  alike-less lo hi next l n f = (λ i g h. f i g (omega arith), f hi l (omega arith))
+
+  pub alike-turn : (lo hi : ℕ) → lo ≤ hi → {x : Bool} → Tells x (Alike a b lo hi) → Tells (x && eqb (getD a hi 0) (getD b hi 0)) (Alike a b lo (hi + 1))
+  alike-turn lo hi l f =
+      tells-same (λ h. alike-more lo hi (hi + 1) l refl (h .0) (h .1)) (alike-less lo hi (hi + 1) l refl) (tells-both f (eq-tells (getD a hi 0) (getD b hi 0)))
+
+  -- two ranges, one behind the other
+  pub alike-join : (lo mid hi : ℕ) → lo ≤ mid → mid ≤ hi → {x y : Bool} → Tells x (Alike a b lo mid) → Tells y (Alike a b mid hi) → Tells (x && y) (Alike a b lo hi)
+  alike-join lo mid hi l g f h =
+      tells-same
+      (λ k i p q. ⊎-elim (λ s. k .0 i p s) (λ s. k .1 i s q) (lt-or-ge i mid))
+      (λ k. (λ i p q. k i p (omega arith), λ i p q. k i (omega arith) q))
+      (tells-both f h)
+
+  -- four lines of 64, compared side by side as far as i in the first
+  abbrev pub Lines : ℕ → ℕ → Type 0
+  Lines at i = Alike a b at i × Alike a b (at + 64) (i + 64) × Alike a b (at + 128) (i + 128) × Alike a b (at + 192) (i + 192)
+
+  pub lines-none : (at : ℕ) → Tells true (Lines at at)
+  lines-none at =
+      record {
+        so = λ e. (alike-none at .so refl, alike-none (at + 64) .so refl, alike-none (at + 128) .so refl, alike-none (at + 192) .so refl);
+        answers = λ f. refl;
+      }
+
+  pub lines-turn : (at i : ℕ) → at ≤ i → {x : Bool} → Tells x (Lines at i)
+      → Tells ((((x && eqb (getD a i 0) (getD b i 0)) && eqb (getD a (i + 64) 0) (getD b (i + 64) 0)) && eqb (getD a (i + 128) 0) (getD b (i + 128) 0)) && eqb (getD a (i + 192) 0) (getD b (i + 192) 0)) (Lines at (i + 1))
+  lines-turn at i l f =
+      tells-same
+      (λ h. (
+        alike-more at i (i + 1) l refl (h .0 .0 .0 .0 .0) (h .0 .0 .0 .1),
+        alike-more (at + 64) (i + 64) (i + 1 + 64) (omega arith) (omega arith) (h .0 .0 .0 .0 .1) (h .0 .0 .1),
+        alike-more (at + 128) (i + 128) (i + 1 + 128) (omega arith) (omega arith) (h .0 .0 .0 .0 .2) (h .0 .1),
+        alike-more (at + 192) (i + 192) (i + 1 + 192) (omega arith) (omega arith) (h .0 .0 .0 .0 .3) (h .1),
+      ))
+      (λ h.
+      let p = alike-less at i (i + 1) l refl (h .0) in
+      let q = alike-less (at + 64) (i + 64) (i + 1 + 64) (omega arith) (omega arith) (h .1) in
+      let r = alike-less (at + 128) (i + 128) (i + 1 + 128) (omega arith) (omega arith) (h .2) in
+      let s = alike-less (at + 192) (i + 192) (i + 1 + 192) (omega arith) (omega arith) (h .3) in
+      (((((p .0, q .0, r .0, s .0), p .1), q .1), r .1), s .1))
+      (tells-both (tells-both (tells-both (tells-both f (equal i)) (equal (i + 64))) (equal (i + 128))) (equal (i + 192)))
+    where
+      equal : (j : ℕ) → Tells (eqb (getD a j 0) (getD b j 0)) (getD a j 0 ≡ getD b j 0)
+      equal j = eq-tells (getD a j 0) (getD b j 0)
+
+  pub lines-whole : (at : ℕ) {x : Bool} → Tells x (Lines at (at + 64)) → Tells x (Alike a b at (at + 256))
+  lines-whole at =
+      tells-same
+      (λ h i l g.
+      ⊎-elim (λ s. h .0 i l s)
+      (λ s. ⊎-elim (λ t. h .1 i s (omega arith)) (λ t. ⊎-elim (λ u. h .2 i t (omega arith)) (λ u. h .3 i u (omega arith)) (lt-or-ge i (at + 192))) (lt-or-ge i (at + 128)))
+      (lt-or-ge i (at + 64)))
+      (λ h. (λ i l g. h i l (omega arith), λ i l g. h i (omega arith) (omega arith), λ i l g. h i (omega arith) (omega arith), λ i l g. h i (omega arith) (omega arith)))
+
+-- lists of one length are the same where all their elements are alike
+same-so : (a b : List ℕ) → sameBytes a b ≡ true → Alike a b 0 (length a)
 unfolding sameBytes
-same-step a b i h k = rw (add-one, drop-cons a i 0 h, drop-cons b i 0 k)
+same-so [] b e i l h = absurd (omega arith)
+same-so (x ∷ xs) [] e i l h = absurd (never (sym e))
+same-so (x ∷ xs) (y ∷ ys) e zero l h = eqb-true x y (and-eq-true-iff (eqb x y) (sameBytes xs ys) .0 e .0)
+same-so (x ∷ xs) (y ∷ ys) e (suc i) l h = same-so xs ys (and-eq-true-iff (eqb x y) (sameBytes xs ys) .0 e .1) i (omega arith) (omega arith)
+
+same-answers : (a b : List ℕ) → length a ≡ length b → Alike a b 0 (length a) → sameBytes a b ≡ true
+unfolding sameBytes
+same-answers [] [] e f = refl
+same-answers [] (y ∷ ys) e f = absurd (omega arith)
+same-answers (x ∷ xs) [] e f = absurd (omega arith)
+same-answers (x ∷ xs) (y ∷ ys) e f =
+    and-eq-true-iff (eqb x y) (sameBytes xs ys) .1
+    (eq-eqb x y (f 0 (omega arith) (omega arith)), same-answers xs ys (omega arith) (λ i l h. f (suc i) (omega arith) (omega arith)))
+
+pub same-by : (a b : List ℕ) → length a ≡ length b → {x : Bool} → Tells x (Alike a b 0 (length a)) → x ≡ sameBytes a b
+same-by a b e {x} f = tells-is x (sameBytes a b) f (record { so = same-so a b; answers = same-answers a b e })
 
 -- a turn of a copy, and of a fill with zeros
 pub copy-step : (s d : List ℕ) (i : ℕ) → i < length s → set (sets d 0 (take i s)) i (getD s i 0) ≡ sets d 0 (take (i + 1) s)

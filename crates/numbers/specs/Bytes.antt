@@ -4,9 +4,12 @@
 --     u16At, u32At      the same for two and for four bytes
 --     bytesOf n v       the n low bytes of v, least first
 --     sameBytes a b     whether two lists are equal, element by element
+--     Alike a b lo hi   the elements from index lo to below hi are the same
+--     Tells x P         a test answers x exactly where P holds
 use mathlib.Core.List.{List, [], _∷_}
 use mathlib.Core.Bool.{Bool, true, false, _&&_}
-use Prim.Native.Nat.{ℕ, zero, suc, _+_, _*_, _/_, _%_, _<_}
+use Prim.Native.Nat.{ℕ, zero, suc, _+_, _*_, _/_, _%_, _≤_, _<_}
+use mathlib.Core.Path.{_≡_}
 use lib.Dec.{eqb}
 use lib.ListN.{getD}
 
@@ -32,3 +35,10 @@ sameBytes [] [] = true
 sameBytes [] (y ∷ ys) = false
 sameBytes (x ∷ xs) [] = false
 sameBytes (x ∷ xs) (y ∷ ys) = eqb x y && sameBytes xs ys
+
+abbrev pub Alike : List ℕ → List ℕ → ℕ → ℕ → Type 0
+Alike a b lo hi = (i : ℕ) → lo ≤ i → i < hi → getD a i 0 ≡ getD b i 0
+
+pub record Tells (x : Bool) (P : Type 0) : Type 0 where
+  pub so : x ≡ true → P
+  pub answers : P → x ≡ true

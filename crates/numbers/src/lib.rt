@@ -4,7 +4,7 @@ ghost use Prim.Native.Nat.{_+_, _*_, _≤_, _<_};
 ghost use lib.ListN.{length, replicate};
 ghost use lib.Seq.{sets};
 ghost use lib.Signed.{leZ};
-ghost use Rattle.numbers.specs.Bytes.{u16At, u32At, bytesOf, sameBytes};
+ghost use Rattle.numbers.specs.Bytes.{u16At, u32At, bytesOf, sameBytes, Alike, Tells};
 ghost use Rattle.numbers.specs.Coordinates.{signed16, signed32, valueOf, unmarked, signFlipped};
 ghost use Rattle.numbers.specs.Ranges.{share};
 
@@ -187,7 +187,40 @@ pub fn clear(d: &mut [u8], n: usize)
     }
 }
 
-// Whether two slices hold the same bytes. The loop has no early end, so that many bytes are compared at a time.
+// Whether two slices hold the same 256 bytes from a place on. Four lines of 64 bytes are compared side by side, so that all four are fetched at once, and the
+// loop has no early end, so that many bytes are compared at a time.
+fn same_lines(a: &[u8], b: &[u8], at: usize) -> bool
+    requires { ⌜ (at + 256 ≤ length (now a)) × (at + 256 ≤ length (now b)) ⌝ }
+    ensures { λ r. ⌜ Tells r (Alike (now (a .entry)) (now (b .entry)) at (at + 256)) ⌝ }
+{
+    let mut alike = true;
+    let mut i = at;
+    while i < at + 64 {
+        alike = alike
+            & (a[i] == b[i])
+            & (a[i + 64] == b[i + 64])
+            & (a[i + 128] == b[i + 128])
+            & (a[i + 192] == b[i + 192]);
+        i += 1;
+    }
+    alike
+}
+
+// Whether two slices of one length hold the same bytes from a place on.
+fn same_rest(a: &[u8], b: &[u8], at: usize) -> bool
+    requires { ⌜ (at ≤ length (now a)) × (length (now a) ≡ length (now b)) ⌝ }
+    ensures { λ r. ⌜ Tells r (Alike (now (a .entry)) (now (b .entry)) at (length (now (a .entry)))) ⌝ }
+{
+    let mut alike = true;
+    let mut i = at;
+    while i < a.len() {
+        alike = alike & (a[i] == b[i]);
+        i += 1;
+    }
+    alike
+}
+
+// Whether two slices hold the same bytes.
 pub fn same(a: &[u8], b: &[u8]) -> bool
     ensures { λ r. ⌜ r ≡ sameBytes (now (a .entry)) (now (b .entry)) ⌝ }
 {
@@ -195,10 +228,10 @@ pub fn same(a: &[u8], b: &[u8]) -> bool
         return false;
     }
     let mut alike = true;
-    let mut i = 0;
-    while i < a.len() {
-        alike = alike & (a[i] == b[i]);
-        i += 1;
+    let mut at = 0;
+    while 256 <= a.len() - at {
+        alike = alike & same_lines(a, b, at);
+        at += 256;
     }
-    alike
+    alike & same_rest(a, b, at)
 }

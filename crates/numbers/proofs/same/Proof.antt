@@ -1,37 +1,39 @@
--- `numbers::same` meets its contract. The invariant: the whole answer is that all bytes so far are alike and the answer on what is left.
--- Assumes nothing.
-use Prim.Native.Nat.{_≤_, _-_, _+_}
-use mathlib.Core.Bool.{_&&_, and-true, and-assoc}
-use mathlib.Core.Path.{_≡_, refl, sym, _∙_}
+-- `numbers::same` meets its contract. The invariant: `alike` tells of the bytes so far. Assumes nothing.
+use Prim.Native.Nat.{_+_, _≤_, _-_}
+use mathlib.Core.Path.{sym}
 use native.Mathlib.Omega.{arith}
-use lib.ListN.{length, drop, drop-of-length-le}
-use Rattle.numbers.specs.Bytes.{sameBytes}
-use Rattle.numbers.proofs.Runs.{same-not, same-step}
+use denote.Ref.{now}
+use lib.ListN.{length}
+use Rattle.numbers.specs.Bytes.{Alike, Tells}
+use Rattle.numbers.proofs.Runs.{same-not, same-by, alike-none, alike-join}
 use Rattle.numbers.proofs.same.Statement.{statement}
 use Rattle.numbers.proofs.same.Tie as tie
 
 abbrev Inv-loop : tie.InvT-loop
-Inv-loop a b alike₀ i₀ alike i = (i ≤ length a) × (sameBytes a b ≡ alike && sameBytes (drop i a) (drop i b))
+Inv-loop a b alike₀ at₀ alike at = (at ≤ length a) × Tells alike (Alike a b 0 at)
 
 abbrev μ-loop : tie.MeasureT-loop
-μ-loop a b alike₀ i₀ alike i = length a - i
+μ-loop a b alike₀ at₀ alike at = length a - at
 
 returns : tie.Need-returns Inv-loop μ-loop
 returns c = sym (same-not _ _ (c .if1 .taken))
 
+loop-holds : tie.Need-loop-holds Inv-loop μ-loop
+loop-holds c = let a = c .before .before .before .args in (omega arith, alike-none (now (a .a)) (now (a .b)) 0)
+
 loop-again : tie.Need-loop-again Inv-loop μ-loop
 loop-again c =
-    let s = c .before .before .before .before .before .args in
-    let l = c .before .before .before .loop in
-    (omega arith, l .inv .1 ∙ rw (same-step (s .a .now) (s .b .now) (l .i) (omega arith) (omega arith), and-assoc))
+    let l = c .before .before .loop in
+    let a = c .before .before .before .before .before .before .args in
+    (omega arith, alike-join (now (a .a)) (now (a .b)) 0 (l .at) (l .at + 256) (omega arith) (omega arith) (l .inv .1) (c .same-lines .ensures))
 
 returns-2 : tie.Need-returns-2 Inv-loop μ-loop
-unfolding sameBytes
 returns-2 c =
-    let s = c .before .before .before .args in
-    let l = c .before .loop in
-    rw (l .inv .1, drop-of-length-le (s .a .now) {i = l .i} (omega arith), drop-of-length-le (s .b .now) {i = l .i} (omega arith))
-    (sym (and-true (l .alike)))
+    let l = c .before .before .loop in
+    let s = c .before .before .before in
+    let a = s .before .before .before .args in
+    same-by (now (a .a)) (now (a .b)) (s .if1 .left)
+    (alike-join (now (a .a)) (now (a .b)) 0 (l .at) (length (now (a .a))) (omega arith) (l .inv .0) (l .inv .1) (c .same-rest .ensures))
 
 pub same-spec : {M : Type 1} → statement M
 same-spec =
@@ -40,10 +42,11 @@ same-spec =
     Inv-loop
     μ-loop
     returns
-    (λ c. (omega arith, refl))
+    loop-holds
     (λ c. omega arith)
-    (λ c. omega arith)
+    (λ c κs. (omega arith, omega arith))
     (λ c. omega arith)
     (λ c. omega arith)
     loop-again
+    (λ c κs. (omega arith, omega arith))
     returns-2)
