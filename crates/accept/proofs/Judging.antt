@@ -17,7 +17,7 @@ use Rattle.records.specs.Sizes.{indexBlockSize, indexPage, objectHeaderSize}
 use Rattle.records.specs.Headers.{indexHead}
 use Rattle.numbers.proofs.Below.{never}
 use Rattle.numbers.proofs.Coordinates.{lt-or-ge}
-use Rattle.records.specs.Slots.{lenGood, pairsOf, bytesIn}
+use Rattle.records.specs.Slots.{lenInRange, lenGood, pairsOf, bytesIn}
 use Rattle.records.specs.Symbols.{sizeGood}
 use Rattle.records.proofs.Symbols.{size-small}
 use Rattle.records.specs.Objects.{objectOf}
@@ -50,8 +50,8 @@ object-part m p {k} h =
       texts = field 6 (omega arith) i;
     }
 
--- an object whose Len is allowed has room for its header; and no object has more bytes than a header and Len pairs
-pub bytes-least : (v len : ℕ) → lenGood v len ≡ true → objectHeaderSize ≤ bytesIn v len
+-- an object whose Len lies in the range has room for its header; and no object has more bytes than a header and Len pairs
+pub bytes-least : (v len : ℕ) → lenInRange v len ≡ true → objectHeaderSize ≤ bytesIn v len
 unfolding bytesIn
 bytes-least v len e = go (eqb v 8) refl
   where
@@ -80,10 +80,25 @@ bytes-pairs v len g = go (eqb v 8) g
     go true e = refl
     go false e = let a = and-eq-true-iff (leb 40 len) (eqb ((len - 32) % 8) 0) .0 e in omega (arith, leb-true 40 len (a .0), eqb-true ((len - 32) % 8) 0 (a .1))
 
-pub pairs-by-bytes : (v len k : ℕ) → lenGood v len ≡ true → eqb (32 + 8 * k) (bytesIn v len) ≡ eqb k (pairsOf v len)
-pairs-by-bytes v len k g =
-    rw (bytes-pairs v len g)
-    (elim (ℕ-discrete k (pairsOf v len)) [
-      | yes e ↦ eq-eqb (32 + 8 * k) (32 + 8 * pairsOf v len) (omega arith) ∙ sym (eq-eqb k (pairsOf v len) e)
-      | no e ↦ ne-eqb (32 + 8 * k) (32 + 8 * pairsOf v len) (λ h. e (omega arith)) ∙ sym (ne-eqb k (pairsOf v len) e)
-    ])
+-- and are those of whole pairs only where its Len, which lies in the range, is allowed
+bytes-whole : (v len k : ℕ) → lenInRange v len ≡ true → 32 + 8 * k ≡ bytesIn v len → lenGood v len ≡ true
+unfolding bytesIn lenInRange lenGood
+bytes-whole v len k r e = go (eqb v 8) r e
+  where
+    go : (b : Bool) → cond b (leb len 32768) (leb 40 len) ≡ true → 32 + 8 * k ≡ cond b (32 + 8 * len) len
+        → cond b (leb len 32768) (leb 40 len && eqb ((len - 32) % 8) 0) ≡ true
+    go true f h = f
+    go false f h = rw f (eq-eqb ((len - 32) % 8) 0 (omega (arith, h)))
+
+-- so the test of the bytes is the test whether Len is allowed and the pairs are so many
+pub pairs-by-bytes : (v len k : ℕ) → lenInRange v len ≡ true → eqb (32 + 8 * k) (bytesIn v len) ≡ lenGood v len && eqb k (pairsOf v len)
+pairs-by-bytes v len k r = go (lenGood v len) refl
+  where
+    go : (b : Bool) → lenGood v len ≡ b → eqb (32 + 8 * k) (bytesIn v len) ≡ b && eqb k (pairsOf v len)
+    go true g =
+        rw (bytes-pairs v len g)
+        (elim (ℕ-discrete k (pairsOf v len)) [
+          | yes e ↦ eq-eqb (32 + 8 * k) (32 + 8 * pairsOf v len) (omega arith) ∙ sym (eq-eqb k (pairsOf v len) e)
+          | no e ↦ ne-eqb (32 + 8 * k) (32 + 8 * pairsOf v len) (λ h. e (omega arith)) ∙ sym (ne-eqb k (pairsOf v len) e)
+        ])
+    go false g = ne-eqb (32 + 8 * k) (bytesIn v len) (λ h. never (sym (bytes-whole v len k r h) ∙ g))

@@ -16,18 +16,18 @@ use records::Slot;
 use records::SymbolBlock;
 use records::SymbolRecord;
 use records::bytes_in;
-use records::len_good;
+use records::len_in_range;
 use records::pair_good;
 use records::size_good;
 use records::type_good;
 ghost use mathlib.Core.Path.{_≡_};
-ghost use mathlib.Core.Bool.{true};
+ghost use mathlib.Core.Bool.{true, _&&_};
 ghost use Prim.Native.Nat.{ℕ, _+_, _*_, _≤_, _<_};
 ghost use lib.ListN.{length, drop};
 ghost use Rattle.numbers.specs.Bytes.{u32At};
 ghost use Rattle.records.specs.Sizes.{headerSize, indexBlockSize, indexPage, slotSize, mapLimit};
 ghost use Rattle.records.specs.Headers.{headerOf, indexHead};
-ghost use Rattle.records.specs.Slots.{lenGood, bytesIn};
+ghost use Rattle.records.specs.Slots.{lenInRange, lenGood, bytesIn};
 ghost use Rattle.chain.specs.Chains.{walked, taken};
 ghost use Rattle.chain.specs.Tables.{Empty, Placed, Filled, Table, EndsTable, endsMeet};
 ghost use Rattle.chain.specs.declared.Walk.the-variants.{Blocks};
@@ -156,9 +156,9 @@ fn judge_header(m: &[u8], used: usize) -> Judged
     judge_fields(Header::of(m), used)
 }
 
-// Whether an object's header fits its slot, whose object has so many bytes.
+// Whether a slot's Len, which lies in the range, is allowed and an object's header fits the slot. The object's bytes settle both Len and the pairs.
 fn header_fits(h: ObjectHeader, t: Slot, bytes: usize) -> bool
-    ensures { λ r. ⌜ ((version : ℕ) → lenGood version (t .len) ≡ true → bytes ≡ bytesIn version (t .len) → r ≡ headerFits h version t) ⌝ }
+    ensures { λ r. ⌜ ((version : ℕ) → lenInRange version (t .len) ≡ true → bytes ≡ bytesIn version (t .len) → r ≡ (lenGood version (t .len) && headerFits h version t)) ⌝ }
 {
     if h.sym != t.sym {
         return false;
@@ -169,10 +169,10 @@ fn header_fits(h: ObjectHeader, t: Slot, bytes: usize) -> bool
     ObjectHeader::SIZE + ObjectHeader::PAIR * (h.items as usize + h.texts as usize) == bytes
 }
 
-// Whether a slot's object is good. The part of the map that starts at its position is handed on.
+// Whether a slot's Len, which lies in the range, is allowed and its object is good. The part of the map that starts at its position is handed on.
 fn object_good(m: &[u8], used: usize, version: u16, index: &[u32], t: Slot) -> bool
-    requires { ⌜ (used ≤ mapLimit) × (used ≤ length (now m)) × (used + indexPage ≤ length (now index) * indexPage) × Filled indexBlockSize indexPage used (now index) × (lenGood version (t .len) ≡ true) ⌝ }
-    ensures { λ r. ⌜ r ≡ objectGood (endsMeet indexBlockSize (now (index .entry))) (now (m .entry)) used version t ⌝ }
+    requires { ⌜ (used ≤ mapLimit) × (used ≤ length (now m)) × (used + indexPage ≤ length (now index) * indexPage) × Filled indexBlockSize indexPage used (now index) × (lenInRange version (t .len) ≡ true) ⌝ }
+    ensures { λ r. ⌜ r ≡ (lenGood version (t .len) && objectGood (endsMeet indexBlockSize (now (index .entry))) (now (m .entry)) used version t) ⌝ }
 {
     let at = t.position as usize;
     let bytes = bytes_in(version, t.len);
@@ -199,7 +199,7 @@ pub fn slot_good(m: &[u8], used: usize, version: u16, index: &[u32], t: Slot) ->
     if !at_most(t.bottom, t.top) {
         return false;
     }
-    if !len_good(version, t.len) {
+    if !len_in_range(version, t.len) {
         return false;
     }
     object_good(m, used, version, index, t)

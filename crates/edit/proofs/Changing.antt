@@ -17,6 +17,7 @@ use Rattle.records.specs.Slots.{stateOf, sameState}
 use Rattle.records.specs.Sizes.{indexBlockSize, indexPage}
 use Rattle.records.specs.Headers.{indexHead}
 use Rattle.records.specs.Journals.{recordFor}
+use Rattle.records.proofs.Slots.{good-in-range}
 use Rattle.chain.specs.Chains.{block}
 use Rattle.chain.specs.Tables.{Filled, EndsTable, endsMeet}
 use Rattle.chain.specs.Cells.{Ordered}
@@ -193,7 +194,7 @@ good-room touch m used v t = go (slotGood touch m used v t) refl
     go : (b : Bool) → slotGood touch m used v t ≡ b → leb (t .position + 2) used && b ≡ b
     go true e =
         let g = slot-tells touch m used v t e in
-        rw (le-leb (t .position + 2) used (omega (arith, g .end, bytes-least v (t .len) (g .len))))
+        rw (le-leb (t .position + 2) used (omega (arith, g .end, bytes-least v (t .len) (good-in-range v (t .len) (g .len)))))
     go false e = and-no (leb (t .position + 2) used)
 
 module _ {m : List ℕ} {used n : ℕ} (h : Holds m used n) (bytes : Bytes m) (s : ℕ) (l : s < 256 * n) (erased : stateOf (slotIn m s) ≡ Erased) where

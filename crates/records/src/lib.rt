@@ -18,7 +18,7 @@ ghost use Rattle.numbers.specs.Bytes.{u16At};
 ghost use Rattle.numbers.specs.Coordinates.{unmarked};
 ghost use Rattle.records.specs.Sizes.{headerSize, slotSize, objectHeaderSize, pairSize, windowSize, journalRecordSize};
 ghost use Rattle.records.specs.Headers.{headerOf, partOf, pairGood};
-ghost use Rattle.records.specs.Slots.{slotOf, slotBytes, stateOf, stateNumber, sameState, foundAt, lenGood, pairsOf, bytesIn, lenOf};
+ghost use Rattle.records.specs.Slots.{slotOf, slotBytes, stateOf, stateNumber, sameState, foundAt, lenInRange, lenGood, pairsOf, bytesIn, lenOf};
 ghost use Rattle.records.specs.Objects.{objectOf, typeGood, xOf, yOf, lesserOf, greaterOf, pointAt, joined, withoutMarks, rectangleOf};
 ghost use Rattle.records.specs.Windows.{windowOf, windowGood, meetsWindow};
 ghost use Rattle.records.specs.Symbols.{sizeGood};
@@ -259,17 +259,14 @@ pub fn read_slot(m: &[u8], at: usize) -> Found
     }
 }
 
-// Whether a version allows a Len.
-pub fn len_good(version: u16, len: u16) -> bool
-    ensures { λ r. ⌜ r ≡ lenGood version len ⌝ }
+// Whether a Len lies in a version's range.
+pub fn len_in_range(version: u16, len: u16) -> bool
+    ensures { λ r. ⌜ r ≡ lenInRange version len ⌝ }
 {
     if version == 8 {
         return len <= ObjectHeader::MOST_PAIRS_8;
     }
-    if (len as usize) < ObjectHeader::SIZE + ObjectHeader::PAIR {
-        return false;
-    }
-    (len as usize - ObjectHeader::SIZE) % ObjectHeader::PAIR == 0
+    ObjectHeader::SIZE + ObjectHeader::PAIR <= len as usize
 }
 
 // The pair count of a slot.

@@ -1,5 +1,6 @@
--- `accept::header_fits` meets its contract: each test that fails settles the answer. Assumes nothing.
+-- `accept::header_fits` meets its contract: each test that fails settles the answer, and the last one is that of Len and of the pairs. Assumes nothing.
 use borrow.Author.Tests.{eq-eqb, ne-eqb}
+use mathlib.Core.Bool.{and-false}
 use Rattle.accept.specs.Judging.{headerFits}
 use Prim.Native.Nat.{_+_}
 use Rattle.accept.proofs.Judging.{fails, passes, pairs-by-bytes}
@@ -9,11 +10,11 @@ use Rattle.accept.proofs.header_fits.Tie as tie
 
 returns : tie.Need-returns
 unfolding headerFits
-returns c v g e = rw (ne-eqb _ _ (c .if1 .taken))
+returns c v g e = rw (ne-eqb _ _ (c .if1 .taken), and-false)
 
 returns-2 : tie.Need-returns-2
 unfolding headerFits
-returns-2 c v g e = rw (eq-eqb _ _ (c .before .before .if1 .left), fails (c .before .type-good .ensures) (c .if2 .taken))
+returns-2 c v g e = rw (eq-eqb _ _ (c .before .before .if1 .left), fails (c .before .type-good .ensures) (c .if2 .taken), and-false)
 
 returns-3 : tie.Need-returns-3
 unfolding headerFits

@@ -2,6 +2,7 @@
 -- part of the map that starts at the object. Assumes nothing.
 use native.Mathlib.Omega.{arith}
 use Prim.Native.Nat.{_-_, _≤_}
+use mathlib.Core.Bool.{and-false}
 use denote.Ref.{now}
 use Rattle.records.specs.Sizes.{objectHeaderSize}
 use lib.ListN.{length, length-take, length-drop}
@@ -15,14 +16,14 @@ use Rattle.accept.proofs.object_good.Tie as tie
 
 returns : tie.Need-returns
 unfolding objectGood
-returns c = rw (within-low _ _ _ _ (c .if1 .taken))
+returns c = rw (within-low _ _ _ _ (c .if1 .taken), and-false)
 
 add-if2 : tie.Need-add-if2
 add-if2 c = let a = c .before .before .before .before .before .args in omega (arith, bytes-most (a .version) (a .t .len), c .before .bytes-in .ensures)
 
 returns-2 : tie.Need-returns-2
 unfolding objectGood
-returns-2 c = rw (← c .before .before .bytes-in .ensures, within-high _ _ _ _ (c .if2 .taken))
+returns-2 c = rw (← c .before .before .bytes-in .ensures, within-high _ _ _ _ (c .if2 .taken), and-false)
 
 meets-block-requires : tie.Need-meets-block-requires
 meets-block-requires c κs =
@@ -35,7 +36,13 @@ returns-3 : tie.Need-returns-3
 unfolding objectGood
 returns-3 c =
     let k = c .before .before in
-    rw (← k .before .before .bytes-in .ensures, within-is _ _ _ _ (k .before .if1 .left) (k .if2 .left), ← c .before .meets-block .ensures, c .if3 .taken)
+    rw (
+      ← k .before .before .bytes-in .ensures,
+      within-is _ _ _ _ (k .before .if1 .left) (k .if2 .left),
+      ← c .before .meets-block .ensures,
+      c .if3 .taken,
+      and-false,
+    )
 
 -- the object's header lies in the part
 room : (c : tie.Else3) → objectHeaderSize ≤ length (now (c .before .before .before .before .before .before .before .before .args .m)) - c .before .before .before .before .before .before .before .before .args .t .position
