@@ -1,7 +1,8 @@
 -- The laws of the definitions in specs/: no one function's own.
 --     Judging      what a test in the code tells of the test in a definition
 --     Rules        the rule of each chain, as the walk has it
---     Looking      the look at one cell of a chain after the other
+--     Firsts       the first number that passes a test, a run of numbers more at a time
+--     Looking      the look at one cell after the other, and at one block after the other
 --     Verdicts     the parts of the answer
 --     Slots        the first free slot
 --     Telling      what a good slot and a good symbol record tell
@@ -11,6 +12,7 @@
 --     Writes       the writes of the edits, as such changes
 pub mod Judging
 pub mod Rules
+pub mod Firsts
 pub mod Looking
 pub mod Slots
 pub mod Telling

@@ -1,78 +1,31 @@
--- The laws of the first free slot: what Len tells of it, one slot more, and the verdict that carries it. Assumes nothing.
-use Prim.Native.Nat.{ℕ, _+_, _*_, _≤_, _<_}
+-- The laws of the first free slot: what Len tells of it, what a slot and the slots of a block are judged to be, and the verdict that carries it. Assumes nothing.
+use Prim.Native.Nat.{ℕ, _+_, _*_, _≤_}
 use mathlib.Core.Bool.{Bool, true, false, cond, not}
 use mathlib.Core.Path.{_≡_, refl, sym, ap, _∙_}
 use mathlib.Core.List.{List}
 use native.Mathlib.Omega.{arith}
-use borrow.Author.Count.{below-more}
-use borrow.Author.Tests.{lt-ltb, le-ltb, ltb-true, ltb-false, eq-eqb, ne-eqb}
-use lib.Dec.{eqb, ltb}
+use borrow.Author.Tests.{eq-eqb, ne-eqb}
+use lib.Dec.{eqb}
 use Rattle.numbers.specs.Bytes.{u16At}
 use Rattle.numbers.specs.Below.{first}
-use Rattle.numbers.proofs.Below.{first-is, first-law}
+use Rattle.numbers.proofs.Below.{First, first-law}
 use Rattle.records.specs.declared.Slot.{Slot}
 use Rattle.records.specs.declared.State.the-variants.{Free}
+use Rattle.records.specs.Sizes.{slotSize}
 use Rattle.records.specs.Slots.{slotOf, stateOf, sameState}
+use Rattle.chain.specs.Cells.{cellIn}
 use Rattle.accept.specs.declared.Verdict.{Verdict}
 use Rattle.accept.specs.declared.Verdict.the-variants.{Accepted, Refused}
 use Rattle.accept.specs.declared.Examined.{Examined}
 use Rattle.accept.specs.declared.Examined.the-variants as examined
 use Rattle.accept.specs.Rules.{slotAt}
 use Rattle.accept.specs.declared.Told.the-variants as told
+use Rattle.accept.specs.declared.Judged.{Judged}
+use Rattle.accept.specs.declared.Judged.the-variants.{Good, Bad}
+use Rattle.accept.specs.declared.BlockTold.the-variants as block-told
 use Rattle.accept.specs.Judging.{slotGood, badSlot}
-use Rattle.accept.specs.Slots.{slotIn, freeSlot, noLen, slotTold, isBad, firstFree, withFree}
-
--- ---- the first number that passes, with one number more
-
-module _ (p : ℕ → Bool) (n : ℕ) where
-  -- it was found before
-  first-found : first p n < n → first p (n + 1) ≡ first p n
-  first-found l = let f = first-law p n in first-is p (n + 1) (first p n) (omega arith) (f .before) (λ g. f .here l)
-
-  none-before : n ≤ first p n → (i : ℕ) → i < n → p i ≡ false
-  none-before l i g = first-law p n .before i (omega arith)
-
-  -- it is the new one
-  first-now : n ≤ first p n → p n ≡ true → first p (n + 1) ≡ n
-  first-now l e = first-is p (n + 1) n (omega arith) (none-before l) (λ g. e)
-
-  -- there is none yet
-  first-later : n ≤ first p n → p n ≡ false → first p (n + 1) ≡ n + 1
-  first-later l e = first-is p (n + 1) (n + 1) (omega arith) (below-more (λ (i : ℕ). p i ≡ false) n (none-before l) e) (λ g. absurd (omega arith))
-
--- ---- the first number below n that passes, or else d
-
-abbrev pub firstOr : (ℕ → Bool) → ℕ → ℕ → ℕ
-firstOr p n d = cond (ltb (first p n) n) (first p n) d
-
-module _ (p : ℕ → Bool) (n d : ℕ) where
-  -- it is not this one
-  or-no : p n ≡ false → firstOr p (n + 1) d ≡ firstOr p n d
-  or-no e = go (ltb (first p n) n) refl
-    where
-      go : (b : Bool) → ltb (first p n) n ≡ b → firstOr p (n + 1) d ≡ firstOr p n d
-      go true f = let l = ltb-true (first p n) n f in rw (first-found p n l, f, lt-ltb (first p n) (n + 1) (omega arith))
-      go false f = let l = ltb-false (first p n) n f in rw (first-later p n l e, f, le-ltb (n + 1) (n + 1) (omega arith))
-
-  -- it is this one, where none was found before; and then what was found is d
-  or-yes : n < d → p n ≡ true → firstOr p (n + 1) d ≡ cond (ltb n (firstOr p n d)) n (firstOr p n d)
-  or-yes l e = go (ltb (first p n) n) refl
-    where
-      go : (b : Bool) → ltb (first p n) n ≡ b → firstOr p (n + 1) d ≡ cond (ltb n (firstOr p n d)) n (firstOr p n d)
-      go true f =
-          let g = ltb-true (first p n) n f in
-          rw (first-found p n g, f, lt-ltb (first p n) (n + 1) (omega arith), le-ltb n (first p n) (omega arith))
-      go false f =
-          let g = ltb-false (first p n) n f in
-          rw (first-now p n g e, f, lt-ltb n (n + 1) (omega arith), lt-ltb n d l)
-
--- below n, n itself stands for none
-pub or-all : (p : ℕ → Bool) (n : ℕ) → firstOr p n n ≡ first p n
-or-all p n = go (ltb (first p n) n) refl
-  where
-    go : (b : Bool) → ltb (first p n) n ≡ b → firstOr p n n ≡ first p n
-    go true f = rw f
-    go false f = rw f (omega (arith, ltb-false (first p n) n f, first-law p n .within))
+use Rattle.accept.specs.Slots.{slotIn, freeSlot, noLen, slotTold, isBad, isFree, toldWith, freeIn, blockJudged, blockTold, withFree}
+use Rattle.accept.proofs.Looking.{cells-fault}
 
 -- ---- a slot is free exactly where its Len is 0
 
@@ -128,15 +81,37 @@ module _ (touch : ℕ → ℕ → Bool) (m : List ℕ) (used v p : ℕ) where
       go false e true f = rw (e, f)
       go false e false f = rw (e, f)
 
-  -- one turn of the search for the first free slot
-  pub told-free : (q : ℕ → Bool) (s d free : ℕ) → s < d → q s ≡ noLen m p → free ≡ firstOr q s d → firstFree (slotTold touch m used v p) free s ≡ firstOr q (s + 1) d
+  pub told-free : isFree (slotTold touch m used v p) ≡ noLen m p
   unfolding slotTold
-  told-free q s d free l e f = go (noLen m p) refl (badSlot touch m used v p) refl
+  told-free = go (noLen m p) refl (badSlot touch m used v p) refl
     where
-      go : (b : Bool) → noLen m p ≡ b → (c : Bool) → badSlot touch m used v p ≡ c → firstFree (slotTold touch m used v p) free s ≡ firstOr q (s + 1) d
-      go true g c h = rw g (ap (λ (x : ℕ). cond (ltb s x) s x) f ∙ sym (or-yes q s d l (e ∙ g)))
-      go false g true h = rw (g, h) (f ∙ sym (or-no q s d (e ∙ g)))
-      go false g false h = rw (g, h) (f ∙ sym (or-no q s d (e ∙ g)))
+      go : (b : Bool) → noLen m p ≡ b → (c : Bool) → badSlot touch m used v p ≡ c → isFree (slotTold touch m used v p) ≡ noLen m p
+      go true e c f = rw e
+      go false e true f = rw (e, f)
+      go false e false f = rw (e, f)
+
+-- ---- what the slots of a block were judged to be
+
+module _ (touch : ℕ → ℕ → Bool) (m : List ℕ) (used v b : ℕ) where
+  pub block-good : {f : ℕ} → blockTold touch m used v b ≡ block-told.Good f → (blockJudged touch m used v b ≡ Good) × First (freeIn m b) 256 f
+  unfolding blockTold
+  block-good {f} e =
+      let t = go (first (freeIn m b) 256) (blockJudged touch m used v b) e in
+      (t .0, rw (t .1) (first-law (freeIn m b) 256))
+    where
+      go : (free : ℕ) (j : Judged) → toldWith free j ≡ block-told.Good f → (j ≡ Good) × (f ≡ free)
+      go free Good e = (refl, (cc))
+      go free (Bad n p) e = let z : _≡_ {A = ℕ} 0 1 = cc in let no-way : ⊥ = omega arith in absurd no-way
+
+  pub block-bad : {p : ℕ} → blockTold touch m used v b ≡ block-told.Bad p → blockJudged touch m used v b ≡ Bad 7 p
+  unfolding blockTold
+  block-bad {p} e = go (first (freeIn m b) 256) (blockJudged touch m used v b) refl e
+    where
+      go : (free : ℕ) (j : Judged) → blockJudged touch m used v b ≡ j → toldWith free j ≡ block-told.Bad p → j ≡ Bad 7 p
+      go free Good f e = let z : _≡_ {A = ℕ} 0 1 = cc in let no-way : ⊥ = omega arith in absurd no-way
+      go free (Bad x q) f e =
+          let g : q ≡ p = cc in
+          rw (cells-fault 7 (λ j. badSlot touch m used v (cellIn b slotSize j)) (cellIn b slotSize) 256 f .0, g)
 
 -- ---- a verdict with the first free slot, and without it again
 

@@ -3,7 +3,6 @@ use chain::Kind;
 use chain::Walk;
 use chain::fill;
 use chain::meets_block;
-use chain::next_cell;
 use chain::walk_chain;
 use numbers::at_most;
 use numbers::u16_at;
@@ -25,18 +24,19 @@ ghost use mathlib.Core.Bool.{true, _&&_};
 ghost use Prim.Native.Nat.{ℕ, _+_, _*_, _≤_, _<_};
 ghost use lib.ListN.{length, drop};
 ghost use Rattle.numbers.specs.Bytes.{u32At};
-ghost use Rattle.records.specs.Sizes.{headerSize, indexBlockSize, indexPage, slotSize, mapLimit};
+ghost use Rattle.records.specs.Sizes.{headerSize, indexBlockSize, indexPage, slotSize, symbolBlockSize, entrySize, mapLimit};
 ghost use Rattle.records.specs.Headers.{headerOf, indexHead};
 ghost use Rattle.records.specs.Slots.{lenInRange, lenGood, bytesIn};
 ghost use Rattle.chain.specs.Chains.{walked, taken};
+ghost use Rattle.chain.specs.Cells.{cellIn};
 ghost use Rattle.chain.specs.Tables.{Empty, Placed, Filled, Table, EndsTable, endsMeet};
 ghost use Rattle.chain.specs.declared.Walk.the-variants.{Blocks};
 ghost use Rattle.accept.specs.declared.Verdict.the-variants.{Accepted};
 ghost use Rattle.accept.specs.declared.Examined.the-variants as examined;
-ghost use Rattle.accept.specs.Slots.{slotTold, isBad, firstFree, withFree};
+ghost use Rattle.accept.specs.Slots.{slotTold, isBad, isFree, firstFree, blockTold, withFree};
 ghost use Rattle.accept.specs.Rules.{indexRule, symbolRule, indexKind, symbolKind};
 ghost use Rattle.accept.specs.Judging.{versionOf, lengthGood, partGood, headerFits, objectGood, slotGood, symbolGood, badEntry};
-ghost use Rattle.accept.specs.Verdicts.{numberOf, placeOf, unless, fieldsJudged, headerJudged, entriesJudged, symbolsJudged, slotsJudged, afterIndex, verdict};
+ghost use Rattle.accept.specs.Verdicts.{numberOf, placeOf, unless, fieldsJudged, headerJudged, cellsJudged, entriesJudged, symbolsJudged, slotsJudged, afterIndex, verdict};
 
 // What the check answers. Refusals carry document 01's number and place.
 pub enum Verdict {
@@ -55,6 +55,12 @@ pub enum Told {
     Free,
     Good,
     Bad,
+}
+
+// What the slots of one block are judged to be: good, with the first free one, 256 where none is free; or at fault, with the place of the first that is.
+pub enum BlockTold {
+    Good { free: usize },
+    Bad { place: u32 },
 }
 
 // What was judged: good, or at fault with document 01's number and place.
@@ -235,15 +241,46 @@ fn is_bad(told: Told) -> bool
     }
 }
 
-// The first free slot, by the one found among the slots before s, and what slot s was judged to be.
-fn first_free(told: Told, free: usize, s: usize) -> usize
-    ensures { λ r. ⌜ r ≡ firstFree told free s ⌝ }
+// Whether a slot was judged to be free.
+fn is_free(told: Told) -> bool
+    ensures { λ r. ⌜ r ≡ isFree told ⌝ }
 {
     match told {
-        Told::Free => { if s < free { s } else { free } }
-        Told::Good => free,
-        Told::Bad => free,
+        Told::Free => true,
+        Told::Good => false,
+        Told::Bad => false,
     }
+}
+
+// The first free slot, by the one found before s, and whether s is free.
+fn first_free(is: bool, free: usize, s: usize) -> usize
+    ensures { λ r. ⌜ r ≡ firstFree is free s ⌝ }
+{
+    if is {
+        if s < free { s } else { free }
+    } else {
+        free
+    }
+}
+
+// The slots of a block.
+fn judge_block_slots(m: &[u8], used: usize, version: u16, index: &[u32], block: usize) -> BlockTold
+    requires { ⌜ (block + indexBlockSize ≤ used) × (used ≤ mapLimit) × (used ≤ length (now m)) × (used + indexPage ≤ length (now index) * indexPage) × Filled indexBlockSize indexPage used (now index) ⌝ }
+    ensures { λ r. ⌜ r ≡ blockTold (endsMeet indexBlockSize (now (index .entry))) (now (m .entry)) used version block ⌝ }
+{
+    let mut at = block + 4;
+    let mut free = 256;
+    let mut j = 0;
+    while j < 256 {
+        let told = judge_slot(m, used, version, index, at);
+        if is_bad(told) {
+            return BlockTold::Bad { place: at as u32 };
+        }
+        free = first_free(is_free(told), free, j);
+        at += Slot::SIZE;
+        j += 1;
+    }
+    BlockTold::Good { free }
 }
 
 // 7: the live slot at fault of lowest number. Where there is none, the first free slot, 256 times the blocks where none is free.
@@ -252,20 +289,21 @@ fn judge_slots(m: &[u8], used: usize, index: &[u32], n: usize) -> Examined
     ensures { λ r. ⌜ r ≡ withFree (now (m .entry)) (unless (slotsJudged (now (m .entry)) used n) (Accepted n)) ⌝ }
 {
     let version = u16_at(m, Header::VERSION);
-    let mut at = u32_at(m, Header::INDEX) as usize + 4;
+    let mut at = Header::INDEX;
     let mut free = 256 * n;
-    let mut s = 0;
-    while s < 256 * n {
-        let told = judge_slot(m, used, version, index, at);
-        if is_bad(told) {
-            return Examined::Refused {
-                number: 7,
-                place: at as u32,
-            };
+    let mut k = 0;
+    while k < n {
+        at = u32_at(m, at) as usize;
+        let told = judge_block_slots(m, used, version, index, at);
+        match told {
+            BlockTold::Bad { place } => {
+                return Examined::Refused { number: 7, place };
+            }
+            BlockTold::Good { free: f } => {
+                free = first_free(f < 256, free, 256 * k + f);
+            }
         }
-        free = first_free(told, free, s);
-        at = next_cell(m, at, s, Slot::SIZE);
-        s += 1;
+        k += 1;
     }
     Examined::Accepted { blocks: n, free }
 }
@@ -302,14 +340,14 @@ fn bad_entry(m: &[u8], used: usize, index: &[u32], p: usize) -> bool
     !symbol_good(m, used, index, p)
 }
 
-// 6, of the first k symbol blocks: the first entry at fault.
-fn judge_entries(m: &[u8], used: usize, index: &[u32], n: usize, k: usize) -> Judged
-    requires { ⌜ (headerSize ≤ used) × (used ≤ mapLimit) × (used ≤ length (now m)) × (used + indexPage ≤ length (now index) * indexPage) × Filled indexBlockSize indexPage used (now index) × EndsTable indexBlockSize indexHead indexPage (now m) n (now index) × (k ≡ taken (symbolRule (now m) n) (now m) used) ⌝ }
-    ensures { λ r. ⌜ r ≡ entriesJudged (now (m .entry)) used n k ⌝ }
+// 6, of one symbol block: the first entry at fault.
+fn judge_block_entries(m: &[u8], used: usize, index: &[u32], block: usize) -> Judged
+    requires { ⌜ (block + symbolBlockSize ≤ used) × (used ≤ mapLimit) × (used ≤ length (now m)) × (used + indexPage ≤ length (now index) * indexPage) × Filled indexBlockSize indexPage used (now index) ⌝ }
+    ensures { λ r. ⌜ r ≡ cellsJudged 6 (λ e. badEntry (endsMeet indexBlockSize (now (index .entry))) (now (m .entry)) used (cellIn block entrySize e)) (cellIn block entrySize) 256 ⌝ }
 {
-    let mut at = u32_at(m, Header::SYMBOLS) as usize + 4;
-    let mut e = 0;
-    while e < 256 * k {
+    let mut at = block + 4;
+    let mut e = 0usize;
+    while e < 256 {
         let p = u32_at(m, at) as usize;
         if bad_entry(m, used, index, p) {
             return Judged::Bad {
@@ -317,8 +355,29 @@ fn judge_entries(m: &[u8], used: usize, index: &[u32], n: usize, k: usize) -> Ju
                 place: at as u32,
             };
         }
-        at = next_cell(m, at, e, SymbolBlock::ENTRY);
+        at += SymbolBlock::ENTRY;
         e += 1;
+    }
+    Judged::Good
+}
+
+// 6, of the first k symbol blocks: the first entry at fault.
+fn judge_entries(m: &[u8], used: usize, index: &[u32], n: usize, k: usize) -> Judged
+    requires { ⌜ (headerSize ≤ used) × (used ≤ mapLimit) × (used ≤ length (now m)) × (used + indexPage ≤ length (now index) * indexPage) × Filled indexBlockSize indexPage used (now index) × EndsTable indexBlockSize indexHead indexPage (now m) n (now index) × (k ≡ taken (symbolRule (now m) n) (now m) used) ⌝ }
+    ensures { λ r. ⌜ r ≡ entriesJudged (now (m .entry)) used n k ⌝ }
+{
+    let mut at = Header::SYMBOLS;
+    let mut i = 0;
+    while i < k {
+        at = u32_at(m, at) as usize;
+        let j = judge_block_entries(m, used, index, at);
+        match j {
+            Judged::Bad { number, place } => {
+                return Judged::Bad { number, place };
+            }
+            Judged::Good => {}
+        }
+        i += 1;
     }
     Judged::Good
 }

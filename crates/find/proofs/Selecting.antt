@@ -1,5 +1,6 @@
 -- The look at one slot after the other, for any test of a slot's number, that counts those that pass and stores their numbers as far as there is room.
---     Selecting m used n test l₀ l at s count    slot s stands at `at`, count slots below s pass, and l is l₀ with their numbers in its first entries
+--     Selecting m used n test l₀ l at s count    the n blocks pass, slot s stands at `at`, count slots below s pass, and l is l₀ with their numbers in its
+--                                                first entries
 -- `sets` writes nothing past the end of a list, so this holds whether there is room or not. Assumes nothing.
 use Prim.Native.Nat.{ℕ, _+_, _*_, _%_, _≤_, _<_}
 use mathlib.Core.Bool.{Bool, true, false, _&&_}
@@ -18,16 +19,17 @@ use Rattle.numbers.proofs.Below.{never, sel-yes, sel-no, sel-length}
 use Rattle.numbers.proofs.Bytes.{sets-snoc}
 use Rattle.records.specs.Sizes.{slotSize, mapLimit}
 use Rattle.records.specs.Headers.{indexHead}
-use Rattle.chain.specs.Chains.{walked}
+use Rattle.chain.specs.Chains.{place, walked}
 use Rattle.chain.specs.declared.Walk.the-variants.{Blocks}
-use Rattle.chain.proofs.Chains.{Pass, walked-pass, few}
-use Rattle.chain.proofs.Cells.{next-ready}
+use Rattle.chain.proofs.Chains.{Pass, walked-pass, few, block-at}
+use Rattle.chain.proofs.Cells.{Lies, cell-zero, cell-lies, next-ready}
 use Rattle.accept.specs.Rules.{indexRule, slotAt}
-use Rattle.accept.proofs.Looking.{Looking, look-start, look-lies, look-on}
 use Rattle.find.specs.Searches.{slotsFor}
 
 pub record Selecting (m : List ℕ) (used n : ℕ) (test : ℕ → Bool) (l₀ l : List ℕ) (at s count : ℕ) : Type 0 where
-  pub look : Looking (indexRule m) m used slotSize n (λ p. false) at s
+  pub pass : Pass (indexRule m) m used n
+  pub upto : s ≤ 256 * n
+  pub here : at ≡ slotAt m s
   pub counted : count ≡ length (sel test s)
   pub stored : l ≡ sets l₀ 0 (sel test s)
 
@@ -45,10 +47,12 @@ unfolding slotsFor
 slots-low test n = sel-length test (256 * n)
 
 pub select-start : {m : List ℕ} {used n : ℕ} {test : ℕ → Bool} {l : List ℕ} {p : ℕ} → walked (indexRule m) m used ≡ Blocks n → p ≡ u32At m indexHead → Selecting m used n test l l (p + 4) 0 0
-unfolding sel
+unfolding sel place
 select-start {m} {used} h e =
     record {
-      look = look-start (walked-pass (indexRule m) m used h) (omega arith) e;
+      pass = walked-pass (indexRule m) m used h;
+      upto = omega arith;
+      here = ap (λ (x : ℕ). x + 4) (e ∙ block-at indexHead m 0 refl) ∙ sym (cell-zero indexHead slotSize m);
       counted = refl;
       stored = refl;
     }
@@ -56,11 +60,14 @@ select-start {m} {used} h e =
 module _ {m : List ℕ} {used n : ℕ} {test : ℕ → Bool} {l₀ l : List ℕ} {at s count : ℕ} (k : Selecting m used n test l₀ l at s count) where
   -- the slot lies in the map, and the next is found
   module _ (h : s < 256 * n) (r : used ≤ length m) where
+    lies : Lies (indexRule m) m used slotSize s
+    lies = cell-lies (k .pass) slotSize (omega arith) s h
+
     pub select-inside : at + slotSize ≤ length m
-    select-inside = omega (arith, look-lies (k .look) h .high, k .look .here)
+    select-inside = omega (arith, lies .high, k .here)
 
     pub select-ready : (at ≤ length m) × (slotSize ≤ 256) × (s % 256 ≡ 255 → 4 + 255 * slotSize ≤ at)
-    select-ready = next-ready (look-lies (k .look) h) r (omega arith) (k .look .here)
+    select-ready = next-ready lies r (omega arith) (k .here)
 
   pub select-low : count ≤ s
   select-low = omega (arith, k .counted, sel-length test s)
@@ -73,7 +80,9 @@ module _ {m : List ℕ} {used n : ℕ} {test : ℕ → Bool} {l₀ l : List ℕ}
     yes : test s ≡ true → Selecting m used n test l₀ (set l count s) at′ (s + 1) (count + 1)
     yes e =
         record {
-          look = look-on (k .look) h refl refl next;
+          pass = k .pass;
+          upto = omega arith;
+          here = next;
           counted = rw (sel-yes test s e, length-append, ← k .counted);
           stored = rw (k .stored, sel-yes test s e) (sets-snoc (sel test s) l₀ 0 count s (omega (arith, k .counted)));
         }
@@ -81,7 +90,9 @@ module _ {m : List ℕ} {used n : ℕ} {test : ℕ → Bool} {l₀ l : List ℕ}
     no : test s ≡ false → Selecting m used n test l₀ l at′ (s + 1) count
     no e =
         record {
-          look = look-on (k .look) h refl refl next;
+          pass = k .pass;
+          upto = omega arith;
+          here = next;
           counted = rw (sel-no test s e) (k .counted);
           stored = rw (sel-no test s e) (k .stored);
         }
@@ -98,5 +109,5 @@ module _ {m : List ℕ} {used n : ℕ} {test : ℕ → Bool} {l₀ l : List ℕ}
   pub select-end : 256 * n ≤ s → (count ≡ length (slotsFor test n)) × (l ≡ sets l₀ 0 (slotsFor test n))
   unfolding slotsFor
   select-end h =
-      let e : s ≡ 256 * n = omega (arith, k .look .upto) in
+      let e : s ≡ 256 * n = omega (arith, k .upto) in
       rw (← e) (k .counted, k .stored)

@@ -21,20 +21,20 @@ abbrev μ-loop : tie.MeasureT-loop
 
 -- there are few blocks
 few : (c : tie.At-loop Inv-loop μ-loop) → c .before .before .before .before .args .n ≤ 2728
-few c = few-blocks (c .loop .inv .look .pass) (c .before .before .before .before .pre .1)
+few c = few-blocks (c .loop .inv .pass) (c .before .before .before .before .pre .1)
 
 -- whether the slot is wanted, by its number
 told : (c : tie.After-wanted Inv-loop μ-loop) → let a = c .before .before .before .before .before .before .args in wantedIn (now (a .m)) (a .state) (a .w) (c .before .before .loop .s) ≡ c .wanted .result
 told c =
     let a = c .before .before .before .before .before .before .args in
-    sym (c .wanted .ensures ∙ ap (wantedAt (now (a .m)) (a .state) (a .w)) (c .before .before .loop .inv .look .here))
+    sym (c .wanted .ensures ∙ ap (wantedAt (now (a .m)) (a .state) (a .w)) (c .before .before .loop .inv .here))
 
 loop-again : tie.Need-loop-again Inv-loop μ-loop
 loop-again c =
     let r = c .before .before in
     let v = r .before .before .loop .inv in
     let go = r .before .loop-test .taken in
-    let next = c .next-cell .ensures indexHead (v .look .here) in
+    let next = c .next-cell .ensures indexHead (v .here) in
     ⊎-elim
     (λ y. rw (y .1) (select-stored v go next (r .wanted .result) (told r) (y .0 .taken)))
     (λ y. rw (y .1) (select-passed v go next (r .wanted .result) (told r) (y .0 .left)))
