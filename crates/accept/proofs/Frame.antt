@@ -27,7 +27,6 @@ use Rattle.records.specs.Headers.{indexHead, symbolHead, setupAt, infoAt, partO
 use Rattle.records.specs.Slots.{slotOf, stateOf, bytesIn}
 use Rattle.records.specs.Objects.{objectOf}
 use Rattle.records.specs.Symbols.{sizeGood}
-use Rattle.records.proofs.Slots.{good-in-range}
 use Rattle.records.proofs.Symbols.{size-small}
 use Rattle.chain.specs.Chains.{place, block, meetsBlock, walked, inside}
 use Rattle.chain.specs.Cells.{cellAt}
@@ -183,7 +182,6 @@ module _ {m m′ : List ℕ} {used used′ n n′ : ℕ} (c : Change m m′ used
   -- a slot that is good is good after the change
   pub good-kept : {v : ℕ} {t : Slot} → GoodSlot (touches m n) m used v t → GoodSlot (touches m′ n′) m′ used′ v t
   good-kept {v} {t} g =
-      let l = bytes-least v (t .len) (good-in-range v (t .len) (g .len)) in
       record {
         wide = g .wide;
         high = g .high;
@@ -191,7 +189,7 @@ module _ {m m′ : List ℕ} {used used′ n n′ : ℕ} (c : Change m m′ used
         low = g .low;
         end = omega (arith, g .end, c .grown);
         off = touch-same (t .position) (bytesIn v (t .len)) (g .end) ∙ g .off;
-        fits = rw (object-same (t .position) (bytesIn v (t .len)) (g .off) (g .low) (g .end) (omega (arith, l))) (g .fits);
+        fits = rw (object-same (t .position) (bytesIn v (t .len)) (g .off) (g .low) (g .end) (omega (arith, bytes-least v (t .len) (g .len)))) (g .fits);
       }
 
   pub version-same : versionOf m′ ≡ versionOf m

@@ -1,6 +1,6 @@
 -- The laws of the tests: what a test in the code tells of the test in a definition, the table in the place of the chain, an object's header read in a lent
 -- part, and the bounds of an object's bytes. Assumes nothing.
-use Prim.Native.Nat.{ℕ, _+_, _-_, _*_, _/_, _%_, _≤_}
+use Prim.Native.Nat.{ℕ, _+_, _-_, _*_, _/_, _%_, _≤_, _<_}
 use mathlib.Core.Bool.{Bool, true, false, not, cond, _&&_, and-eq-true-iff}
 use mathlib.Core.Logic.{⊎-elim}
 use mathlib.Core.Path.{_≡_, refl, sym, _∙_, fun-ext}
@@ -10,14 +10,14 @@ use native.Mathlib.Decide.{ℕ-discrete}
 use lib.Dec.{eqb, leb}
 use lib.ListN.{take, drop}
 use lib.Seq.{getD-take}
-use borrow.Author.Tests.{not-true, not-false, eqb-true, eqb-false, eq-eqb, ne-eqb, leb-true}
+use borrow.Author.Tests.{not-true, not-false, eqb-true, eqb-false, eq-eqb, ne-eqb, leb-true, leb-false, le-leb, lt-leb}
 use Rattle.numbers.specs.Bytes.{u16At}
 use Rattle.numbers.proofs.Bytes.{leAt-part, leAt-drop}
-use Rattle.records.specs.Sizes.{indexBlockSize, indexPage, objectHeaderSize}
+use Rattle.records.specs.Sizes.{indexBlockSize, indexPage, objectHeaderSize, objectMost}
 use Rattle.records.specs.Headers.{indexHead}
 use Rattle.numbers.proofs.Below.{never}
 use Rattle.numbers.proofs.Coordinates.{lt-or-ge}
-use Rattle.records.specs.Slots.{lenInRange, lenGood, pairsOf, bytesIn}
+use Rattle.records.specs.Slots.{lenGood, pairsOf, bytesIn, bytesInRange}
 use Rattle.records.specs.Symbols.{sizeGood}
 use Rattle.records.proofs.Symbols.{size-small}
 use Rattle.records.specs.Objects.{objectOf}
@@ -50,8 +50,8 @@ object-part m p {k} h =
       texts = field 6 (omega arith) i;
     }
 
--- an object whose Len lies in the range has room for its header; and no object has more bytes than a header and Len pairs
-pub bytes-least : (v len : ℕ) → lenInRange v len ≡ true → objectHeaderSize ≤ bytesIn v len
+-- an object whose Len is allowed has room for its header; and no object has more bytes than a header and Len pairs
+pub bytes-least : (v len : ℕ) → lenGood v len ≡ true → objectHeaderSize ≤ bytesIn v len
 unfolding bytesIn
 bytes-least v len e = go (eqb v 8) refl
   where
@@ -80,18 +80,41 @@ bytes-pairs v len g = go (eqb v 8) g
     go true e = refl
     go false e = let a = and-eq-true-iff (leb 40 len) (eqb ((len - 32) % 8) 0) .0 e in omega (arith, leb-true 40 len (a .0), eqb-true ((len - 32) % 8) 0 (a .1))
 
--- and are those of whole pairs only where its Len, which lies in the range, is allowed
-bytes-whole : (v len k : ℕ) → lenInRange v len ≡ true → 32 + 8 * k ≡ bytesIn v len → lenGood v len ≡ true
-unfolding bytesIn lenInRange lenGood
+-- an object whose bytes lie in the range has room for its header
+pub in-range : (n : ℕ) → bytesInRange n ≡ true → (objectHeaderSize ≤ n) × (n ≤ objectMost)
+unfolding bytesInRange
+in-range n e = let a = and-eq-true-iff (leb 40 n) (leb n 262176) .0 e in (omega (arith, leb-true 40 n (a .0)), leb-true n 262176 (a .1))
+
+-- one whose bytes are out of the range has a Len that is not allowed
+pub out-of-range : (v len : ℕ) → (len ≡ 0 → ⊥) → len < 65536 → bytesInRange (bytesIn v len) ≡ false → lenGood v len ≡ false
+unfolding bytesIn bytesInRange lenGood
+out-of-range v len ne l r = go (eqb v 8) r
+  where
+    go : (b : Bool) → leb 40 (cond b (32 + 8 * len) len) && leb (cond b (32 + 8 * len) len) 262176 ≡ false
+        → cond b (leb len 32768) (leb 40 len && eqb ((len - 32) % 8) 0) ≡ false
+    go true f = lt-leb len 32768 (omega (arith, leb-false (32 + 8 * len) 262176 (rw (le-leb 40 (32 + 8 * len) (omega arith)) at f)))
+    go false f =
+        ⊎-elim
+        (λ h. rw (lt-leb 40 len h))
+        (λ h. absurd (never (rw (le-leb 40 len h, le-leb len 262176 (omega arith)) at f)))
+        (lt-or-ge len 40)
+
+-- and in the range they are those of whole pairs only where its Len is allowed
+bytes-whole : (v len k : ℕ) → bytesInRange (bytesIn v len) ≡ true → 32 + 8 * k ≡ bytesIn v len → lenGood v len ≡ true
+unfolding bytesIn bytesInRange lenGood
 bytes-whole v len k r e = go (eqb v 8) r e
   where
-    go : (b : Bool) → cond b (leb len 32768) (leb 40 len) ≡ true → 32 + 8 * k ≡ cond b (32 + 8 * len) len
+    go : (b : Bool) → leb 40 (cond b (32 + 8 * len) len) && leb (cond b (32 + 8 * len) len) 262176 ≡ true → 32 + 8 * k ≡ cond b (32 + 8 * len) len
         → cond b (leb len 32768) (leb 40 len && eqb ((len - 32) % 8) 0) ≡ true
-    go true f h = f
-    go false f h = rw f (eq-eqb ((len - 32) % 8) 0 (omega (arith, h)))
+    go true f h =
+        let a = and-eq-true-iff (leb 40 (32 + 8 * len)) (leb (32 + 8 * len) 262176) .0 f in
+        le-leb len 32768 (omega (arith, leb-true (32 + 8 * len) 262176 (a .1)))
+    go false f h =
+        let a = and-eq-true-iff (leb 40 len) (leb len 262176) .0 f in
+        and-eq-true-iff (leb 40 len) (eqb ((len - 32) % 8) 0) .1 (a .0, eq-eqb ((len - 32) % 8) 0 (omega (arith, h)))
 
 -- so the test of the bytes is the test whether Len is allowed and the pairs are so many
-pub pairs-by-bytes : (v len k : ℕ) → lenInRange v len ≡ true → eqb (32 + 8 * k) (bytesIn v len) ≡ lenGood v len && eqb k (pairsOf v len)
+pub pairs-by-bytes : (v len k : ℕ) → bytesInRange (bytesIn v len) ≡ true → eqb (32 + 8 * k) (bytesIn v len) ≡ lenGood v len && eqb k (pairsOf v len)
 pairs-by-bytes v len k r = go (lenGood v len) refl
   where
     go : (b : Bool) → lenGood v len ≡ b → eqb (32 + 8 * k) (bytesIn v len) ≡ b && eqb k (pairsOf v len)

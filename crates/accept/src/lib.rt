@@ -15,7 +15,7 @@ use records::Slot;
 use records::SymbolBlock;
 use records::SymbolRecord;
 use records::bytes_in;
-use records::len_in_range;
+use records::bytes_in_range;
 use records::pair_good;
 use records::size_good;
 use records::type_good;
@@ -26,7 +26,7 @@ ghost use lib.ListN.{length, drop};
 ghost use Rattle.numbers.specs.Bytes.{u32At};
 ghost use Rattle.records.specs.Sizes.{headerSize, indexBlockSize, indexPage, slotSize, symbolBlockSize, entrySize, mapLimit};
 ghost use Rattle.records.specs.Headers.{headerOf, indexHead};
-ghost use Rattle.records.specs.Slots.{lenInRange, lenGood, bytesIn};
+ghost use Rattle.records.specs.Slots.{lenGood, bytesIn, bytesInRange};
 ghost use Rattle.chain.specs.Chains.{walked, taken};
 ghost use Rattle.chain.specs.Cells.{cellIn};
 ghost use Rattle.chain.specs.Tables.{Empty, Placed, Filled, Table, EndsTable, endsMeet};
@@ -162,9 +162,9 @@ fn judge_header(m: &[u8], used: usize) -> Judged
     judge_fields(Header::of(m), used)
 }
 
-// Whether a slot's Len, which lies in the range, is allowed and an object's header fits the slot. The object's bytes settle both Len and the pairs.
+// Whether an object's header fits its slot, whose object has so many bytes. The last test also settles that a Len in 6 and 7 is one of whole pairs.
 fn header_fits(h: ObjectHeader, t: Slot, bytes: usize) -> bool
-    ensures { λ r. ⌜ ((version : ℕ) → lenInRange version (t .len) ≡ true → bytes ≡ bytesIn version (t .len) → r ≡ (lenGood version (t .len) && headerFits h version t)) ⌝ }
+    ensures { λ r. ⌜ ((version : ℕ) → bytesInRange bytes ≡ true → bytes ≡ bytesIn version (t .len) → r ≡ (lenGood version (t .len) && headerFits h version t)) ⌝ }
 {
     if h.sym != t.sym {
         return false;
@@ -175,13 +175,16 @@ fn header_fits(h: ObjectHeader, t: Slot, bytes: usize) -> bool
     ObjectHeader::SIZE + ObjectHeader::PAIR * (h.items as usize + h.texts as usize) == bytes
 }
 
-// Whether a slot's Len, which lies in the range, is allowed and its object is good. The part of the map that starts at its position is handed on.
+// Whether a slot's Len is allowed and its object is good. The part of the map that starts at its position is handed on.
 fn object_good(m: &[u8], used: usize, version: u16, index: &[u32], t: Slot) -> bool
-    requires { ⌜ (used ≤ mapLimit) × (used ≤ length (now m)) × (used + indexPage ≤ length (now index) * indexPage) × Filled indexBlockSize indexPage used (now index) × (lenInRange version (t .len) ≡ true) ⌝ }
+    requires { ⌜ (used ≤ mapLimit) × (used ≤ length (now m)) × (used + indexPage ≤ length (now index) * indexPage) × Filled indexBlockSize indexPage used (now index) × (t .len ≡ 0 → ⊥) ⌝ }
     ensures { λ r. ⌜ r ≡ (lenGood version (t .len) && objectGood (endsMeet indexBlockSize (now (index .entry))) (now (m .entry)) used version t) ⌝ }
 {
     let at = t.position as usize;
     let bytes = bytes_in(version, t.len);
+    if !bytes_in_range(bytes) {
+        return false;
+    }
     if at < Header::SIZE {
         return false;
     }
@@ -194,18 +197,15 @@ fn object_good(m: &[u8], used: usize, version: u16, index: &[u32], t: Slot) -> b
     header_fits(ObjectHeader::of(&m[at..]), t, bytes)
 }
 
-// Whether a slot would be good as a live one.
+// Whether a slot that is not free would be good as a live one.
 pub fn slot_good(m: &[u8], used: usize, version: u16, index: &[u32], t: Slot) -> bool
-    requires { ⌜ (used ≤ mapLimit) × (used ≤ length (now m)) × (used + indexPage ≤ length (now index) * indexPage) × Filled indexBlockSize indexPage used (now index) ⌝ }
+    requires { ⌜ (used ≤ mapLimit) × (used ≤ length (now m)) × (used + indexPage ≤ length (now index) * indexPage) × Filled indexBlockSize indexPage used (now index) × (t .len ≡ 0 → ⊥) ⌝ }
     ensures { λ r. ⌜ r ≡ slotGood (endsMeet indexBlockSize (now (index .entry))) (now (m .entry)) used version t ⌝ }
 {
     if !at_most(t.left, t.right) {
         return false;
     }
     if !at_most(t.bottom, t.top) {
-        return false;
-    }
-    if !len_in_range(version, t.len) {
         return false;
     }
     object_good(m, used, version, index, t)

@@ -17,7 +17,6 @@ use Rattle.records.specs.Slots.{stateOf, sameState}
 use Rattle.records.specs.Sizes.{indexBlockSize, indexPage}
 use Rattle.records.specs.Headers.{indexHead}
 use Rattle.records.specs.Journals.{recordFor}
-use Rattle.records.proofs.Slots.{good-in-range}
 use Rattle.chain.specs.Chains.{block}
 use Rattle.chain.specs.Tables.{Filled, EndsTable, endsMeet}
 use Rattle.chain.specs.Cells.{Ordered}
@@ -194,13 +193,14 @@ good-room touch m used v t = go (slotGood touch m used v t) refl
     go : (b : Bool) → slotGood touch m used v t ≡ b → leb (t .position + 2) used && b ≡ b
     go true e =
         let g = slot-tells touch m used v t e in
-        rw (le-leb (t .position + 2) used (omega (arith, g .end, bytes-least v (t .len) (good-in-range v (t .len) (g .len)))))
+        rw (le-leb (t .position + 2) used (omega (arith, g .end, bytes-least v (t .len) (g .len))))
     go false e = and-no (leb (t .position + 2) used)
 
-module _ {m : List ℕ} {used n : ℕ} (h : Holds m used n) (bytes : Bytes m) (s : ℕ) (l : s < 256 * n) (erased : stateOf (slotIn m s) ≡ Erased) where
-  len-not : slotIn m s .len ≡ 0 → ⊥
-  len-not = len-some Erased (slotIn m s) (rw erased) (λ e. zero-one (cc))
+-- an erased slot has a Len
+pub erased-len : (t : Slot) → stateOf t ≡ Erased → t .len ≡ 0 → ⊥
+erased-len t e = len-some Erased t (rw e) (λ e. zero-one (cc))
 
+module _ {m : List ℕ} {used n : ℕ} (h : Holds m used n) (bytes : Bytes m) (s : ℕ) (l : s < 256 * n) (erased : stateOf (slotIn m s) ≡ Erased) where
   sym-fits : objectSym m s < 2 ^ 16
   unfolding objectSym
   sym-fits = leAt-lt 2 m (slotIn m s .position) bytes
@@ -218,7 +218,7 @@ module _ {m : List ℕ} {used n : ℕ} (h : Holds m used n) (bytes : Bytes m) (s
       go true e = and-no (leb (slotIn m s .position + 2) used)
       go false e =
           good-room (touches m n) m used (versionOf m) (resym (slotIn m s) (objectSym m s))
-          ∙ sym (accepted-good h s l (objectSym m s) sym-fits (eqb-false (objectSym m s) 0 e) len-not)
+          ∙ sym (accepted-good h s l (objectSym m s) sym-fits (eqb-false (objectSym m s) 0 e) (erased-len (slotIn m s) erased))
 
   pub reinstate-by : {index : List ℕ} → EndsTable indexBlockSize indexHead indexPage m n index
       → symToReinstate (endsMeet indexBlockSize index) m used (slotIn m s) ≡ cond (canReinstate m used n s) (Write (objectSym m s)) None

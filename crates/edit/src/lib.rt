@@ -185,7 +185,7 @@ pub enum NewSym {
 
 // The Sym that reinstates an erased slot.
 fn sym_to_reinstate(m: &[u8], used: usize, index: &[u32], t: Slot) -> NewSym
-    requires { ⌜ (headerSize ≤ used) × (used ≤ mapLimit) × (used ≤ length (now m)) × (used + indexPage ≤ length (now index) * indexPage) × Filled indexBlockSize indexPage used (now index) ⌝ }
+    requires { ⌜ (headerSize ≤ used) × (used ≤ mapLimit) × (used ≤ length (now m)) × (used + indexPage ≤ length (now index) * indexPage) × Filled indexBlockSize indexPage used (now index) × (t .len ≡ 0 → ⊥) ⌝ }
     ensures { λ r. ⌜ r ≡ symToReinstate (endsMeet indexBlockSize (now (index .entry))) (now (m .entry)) used t ⌝ }
 {
     let at = t.position as usize;

@@ -1,6 +1,6 @@
--- The laws of slots: what is written is read back, what lies elsewhere stays, and what a Len in the range or allowed tells. Assumes nothing.
+-- The laws of slots: what is written is read back, what lies elsewhere stays, and what a Len that is allowed tells. Assumes nothing.
 use mathlib.Core.Path.{_≡_, refl, sym, _∙_}
-use mathlib.Core.Bool.{Bool, true, false, cond, _&&_}
+use mathlib.Core.Bool.{Bool, true, false, _&&_}
 use mathlib.Core.List.{List, [], _++_}
 use mathlib.Core.Logic.{_⊎_, ⊎-elim}
 use Prim.Native.Nat.{ℕ, _+_, _-_, _*_, _%_, _≤_, _<_, _^_}
@@ -14,28 +14,16 @@ use Rattle.numbers.specs.Bytes.{leAt, bytesOf, Bytes}
 use Rattle.numbers.proofs.Bytes.{leAt-cong, leAt-field, leAt-lt, getD-sets-in}
 use Rattle.numbers.proofs.Below.{never}
 use Rattle.records.specs.declared.Slot.{Slot}
-use Rattle.records.specs.Slots.{slotOf, slotBytes, lenInRange, lenGood}
+use Rattle.records.specs.Slots.{slotOf, slotBytes, lenGood}
 
--- a Len out of the range is not allowed, and one that is allowed lies in it
-pub out-of-range : (v len : ℕ) → lenInRange v len ≡ false → lenGood v len ≡ false
-unfolding lenInRange lenGood
-out-of-range v len e = go (eqb v 8) e
+-- a Len that 6 or 7 allows has room for the header and a pair
+pub len-room : (v len : ℕ) → lenGood v len ≡ true → (v ≡ 8 → ⊥) → 40 ≤ len
+unfolding lenGood
+len-room v len e ne = go (leb 40 len) refl (rw (ne-eqb v 8 ne) at e)
   where
-    go : (b : Bool) → cond b (leb len 32768) (leb 40 len) ≡ false → cond b (leb len 32768) (leb 40 len && eqb ((len - 32) % 8) 0) ≡ false
-    go true f = f
-    go false f = rw f
-
-pub good-in-range : (v len : ℕ) → lenGood v len ≡ true → lenInRange v len ≡ true
-good-in-range v len g = go (lenInRange v len) refl
-  where
-    go : (b : Bool) → lenInRange v len ≡ b → b ≡ true
-    go true e = refl
-    go false e = absurd (never (sym g ∙ out-of-range v len e))
-
--- a Len in the range of 6 or 7 has room for the header and a pair
-pub len-room : (v len : ℕ) → lenInRange v len ≡ true → (v ≡ 8 → ⊥) → 40 ≤ len
-unfolding lenInRange
-len-room v len e ne = leb-true 40 len (rw (ne-eqb v 8 ne) at e)
+    go : (b : Bool) → leb 40 len ≡ b → b && eqb ((len - 32) % 8) 0 ≡ true → 40 ≤ len
+    go true f g = leb-true 40 len f
+    go false f g = absurd (never (sym g))
 
 -- each field is a number of its width
 pub record SlotFits (t : Slot) : Type 0 where

@@ -37,6 +37,10 @@ objectHeaderSize = 32
 abbrev pub pairSize : ℕ
 pairSize = 8
 
+-- an object has at most so many bytes: those of 32,768 pairs
+abbrev pub objectMost : ℕ
+objectMost = 262176
+
 -- a window in a program's input: four numbers
 abbrev pub windowSize : ℕ
 windowSize = 16

@@ -4,10 +4,10 @@
 --     stateOf t          Len 0: free, whatever Sym is; Len not 0 and Sym 0: erased; both not 0: live
 --     sameState j k      whether two states are the same, by a number for each
 --     foundAt m p        what the slot reader answers: the fields, the state and the place
---     lenInRange v len   whether Len lies in the range of version v: in 6 and 7 at least 40; in 8 at most 32,768
 --     lenGood v len      whether Len is one that version v allows: in 6 and 7 at least 40, and 32 less is a multiple of 8; in 8 at most 32,768
 --     pairsOf v len      the pair count of a slot: in 6 and 7 Len is the object's bytes; in 8 it counts pairs
 --     bytesIn v len      the object's bytes: Len in 6 and 7, 32 + 8 x Len in 8
+--     bytesInRange n     whether an object can have n bytes by its Len: room for a pair at least, and for 32,768 at most
 --     lenOf v k          the Len of an object of k pairs
 use Prim.Native.Nat.{ℕ, _+_, _-_, _*_, _/_, _%_}
 use mathlib.Core.Bool.{Bool, cond, _&&_}
@@ -18,7 +18,7 @@ use Rattle.records.specs.declared.Slot.{Slot}
 use Rattle.records.specs.declared.State.{State}
 use Rattle.records.specs.declared.State.the-variants.{Free, Erased, Live}
 use Rattle.records.specs.declared.Found.{Found}
-use Rattle.records.specs.Sizes.{objectHeaderSize, pairSize}
+use Rattle.records.specs.Sizes.{objectHeaderSize, pairSize, objectMost}
 
 unfoldable pub slotOf : List ℕ → ℕ → Slot
 slotOf m p =
@@ -52,9 +52,6 @@ unfoldable pub foundAt : List ℕ → ℕ → Found
 foundAt m p = record { slot = slotOf m p; state = stateOf (slotOf m p); place = p }
 
 -- version 8 counts pairs, 6 and 7 bytes
-unfoldable pub lenInRange : ℕ → ℕ → Bool
-lenInRange v len = cond (eqb v 8) (leb len 32768) (leb (objectHeaderSize + pairSize) len)
-
 unfoldable pub lenGood : ℕ → ℕ → Bool
 lenGood v len =
     cond (eqb v 8) (leb len 32768) (leb (objectHeaderSize + pairSize) len && eqb ((len - objectHeaderSize) % pairSize) 0)
@@ -64,6 +61,9 @@ pairsOf v len = cond (eqb v 8) len ((len - objectHeaderSize) / pairSize)
 
 unfoldable pub bytesIn : ℕ → ℕ → ℕ
 bytesIn v len = cond (eqb v 8) (objectHeaderSize + pairSize * len) len
+
+unfoldable pub bytesInRange : ℕ → Bool
+bytesInRange n = leb (objectHeaderSize + pairSize) n && leb n objectMost
 
 unfoldable pub lenOf : ℕ → ℕ → ℕ
 lenOf v k = cond (eqb v 8) k (objectHeaderSize + pairSize * k)

@@ -18,7 +18,7 @@ ghost use Rattle.numbers.specs.Bytes.{u16At};
 ghost use Rattle.numbers.specs.Coordinates.{unmarked};
 ghost use Rattle.records.specs.Sizes.{headerSize, slotSize, objectHeaderSize, pairSize, windowSize, journalRecordSize};
 ghost use Rattle.records.specs.Headers.{headerOf, partOf, pairGood};
-ghost use Rattle.records.specs.Slots.{slotOf, slotBytes, stateOf, stateNumber, sameState, foundAt, lenInRange, lenGood, pairsOf, bytesIn, lenOf};
+ghost use Rattle.records.specs.Slots.{slotOf, slotBytes, stateOf, stateNumber, sameState, foundAt, lenGood, pairsOf, bytesIn, bytesInRange, lenOf};
 ghost use Rattle.records.specs.Objects.{objectOf, typeGood, xOf, yOf, lesserOf, greaterOf, pointAt, joined, withoutMarks, rectangleOf};
 ghost use Rattle.records.specs.Windows.{windowOf, windowGood, meetsWindow};
 ghost use Rattle.records.specs.Symbols.{sizeGood};
@@ -259,16 +259,6 @@ pub fn read_slot(m: &[u8], at: usize) -> Found
     }
 }
 
-// Whether a Len lies in a version's range.
-pub fn len_in_range(version: u16, len: u16) -> bool
-    ensures { λ r. ⌜ r ≡ lenInRange version len ⌝ }
-{
-    if version == 8 {
-        return len <= ObjectHeader::MOST_PAIRS_8;
-    }
-    ObjectHeader::SIZE + ObjectHeader::PAIR <= len as usize
-}
-
 // The pair count of a slot.
 pub fn pairs_of(version: u16, len: u16) -> usize
     requires { ⌜ lenGood version len ≡ true ⌝ }
@@ -288,6 +278,16 @@ pub fn bytes_in(version: u16, len: u16) -> usize
         return ObjectHeader::SIZE + ObjectHeader::PAIR * (len as usize);
     }
     len as usize
+}
+
+// Whether an object's bytes lie in the range that objects have: room for one pair at least, and for as many as a Len may say in 8 at most.
+pub fn bytes_in_range(bytes: usize) -> bool
+    ensures { λ r. ⌜ r ≡ bytesInRange bytes ⌝ }
+{
+    if bytes < ObjectHeader::SIZE + ObjectHeader::PAIR {
+        return false;
+    }
+    bytes <= ObjectHeader::MOST_BYTES
 }
 
 // The Len of an object of k pairs.
@@ -319,6 +319,8 @@ impl ObjectHeader {
     pub const MOST_PAIRS_8: u16 = 32768;
 
     pub const MOST_PAIRS: usize = 8187;
+    // An object has at most so many bytes.
+    pub const MOST_BYTES: usize = 262176;
 
     // The header of the object that starts a part.
     pub fn of(part: &[u8]) -> ObjectHeader

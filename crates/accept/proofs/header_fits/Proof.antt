@@ -1,6 +1,6 @@
 -- `accept::header_fits` meets its contract: each test that fails settles the answer, and the last one is that of Len and of the pairs. Assumes nothing.
-use borrow.Author.Tests.{eq-eqb, ne-eqb}
 use mathlib.Core.Bool.{and-false}
+use borrow.Author.Tests.{eq-eqb, ne-eqb}
 use Rattle.accept.specs.Judging.{headerFits}
 use Prim.Native.Nat.{_+_}
 use Rattle.accept.proofs.Judging.{fails, passes, pairs-by-bytes}
@@ -22,7 +22,7 @@ returns-3 c v g e =
     let k = c .before .before in
     let a = k .before .before .before .before .before .args in
     rw (eq-eqb _ _ (k .before .before .if1 .left), passes (k .before .type-good .ensures) (k .if2 .left), e)
-    (pairs-by-bytes v (a .t .len) (a .h .items + a .h .texts) g)
+    (pairs-by-bytes v (a .t .len) (a .h .items + a .h .texts) (rw e at g))
 
 pub header-fits-spec : {M : Type 1} → statement M
 header-fits-spec =

@@ -1,5 +1,4 @@
 -- `accept::slot_good` meets its contract: each test that fails settles the answer, and the last one is that of Len and of the object. Assumes nothing.
-use Rattle.records.proofs.Slots.{out-of-range}
 use Rattle.accept.specs.Judging.{slotGood}
 use Rattle.accept.proofs.Judging.{fails, passes}
 use borrow.Author.Needs.{needs}
@@ -19,23 +18,7 @@ returns-2 c =
 returns-3 : tie.Need-returns-3
 unfolding slotGood
 returns-3 c =
-    let l = c .before .before in
-    let k = l .before .before in
-    rw (
-      passes (k .before .at-most .ensures) (k .if1 .left),
-      passes (l .before .at-most2 .ensures) (l .if2 .left),
-      out-of-range _ _ (fails (c .before .len-in-range .ensures) (c .if3 .taken)),
-    )
-
-object-good-requires : tie.Need-object-good-requires
-object-good-requires c κs =
-    let pre = c .before .before .before .before .before .before .before .before .pre in
-    (pre .0, pre .1, pre .2, pre .3, passes (c .before .len-in-range .ensures) (c .if3 .left))
-
-returns-4 : tie.Need-returns-4
-unfolding slotGood
-returns-4 c =
-    let l = c .before .before .before in
+    let l = c .before in
     let k = l .before .before in
     rw (passes (k .before .at-most .ensures) (k .if1 .left), passes (l .before .at-most2 .ensures) (l .if2 .left)) (c .object-good .ensures)
 
@@ -48,6 +31,4 @@ slot-good-spec =
     (λ c κs. search needs)
     returns-2
     (λ c κs. search needs)
-    returns-3
-    object-good-requires
-    returns-4)
+    returns-3)

@@ -14,7 +14,7 @@ use Rattle.accept.proofs.Accepting.{Holds, accepted-tells}
 use Rattle.accept.proofs.Writes.{slot-lies}
 use Rattle.edit.specs.Slots.{slotIn}
 use Rattle.edit.specs.NewSyms.{symToReinstate}
-use Rattle.edit.proofs.Changing.{few-blocks, state-has, beyond-has, sym-neither, sym-remove, sym-remove-none, sym-reinstate-none, sym-reinstate, reinstate-by}
+use Rattle.edit.proofs.Changing.{few-blocks, state-has, beyond-has, sym-neither, sym-remove, sym-remove-none, sym-reinstate-none, sym-reinstate, erased-len, reinstate-by}
 use borrow.Author.Needs.{needs}
 use Rattle.edit.proofs.sym_for.Statement.{statement}
 use Rattle.edit.proofs.sym_for.Tie as tie
@@ -52,9 +52,11 @@ found c =
 
 sym-to-reinstate-requires : tie.Need-sym-to-reinstate-requires
 sym-to-reinstate-requires c κs =
-    let s = c .before .before .before .before .before .before .before .before .before .before in
+    let k = c .before .before .before .before in
+    let s = k .before .before .before .before .before .before in
     let h = holds s in
-    (h .low, h .limit, h .room, omega (arith, h .limit, s .pre .2), s .pre .1 .filled)
+    let e = found k .0 ∙ c .before .enum-told3 .given .1 in
+    (h .low, h .limit, h .room, omega (arith, h .limit, s .pre .2), s .pre .1 .filled, λ z. erased-len _ e (ap (λ (t : Slot). t .len) (found k .1) ∙ z))
 
 returns-2 : tie.Need-returns-2
 returns-2 c =

@@ -3,7 +3,7 @@ use borrow.Author.Tests.{eq-eqb, ne-eqb, le-leb, lt-leb, lt-ltb, le-ltb}
 use native.Mathlib.Omega.{arith}
 use mathlib.Core.Path.{_≡_}
 use mathlib.Core.Bool.{true}
-use Rattle.records.proofs.Slots.{good-in-range, len-room}
+use Rattle.records.proofs.Slots.{len-room}
 use Rattle.records.specs.Slots.{pairsOf}
 use Rattle.records.proofs.pairs_of.Statement.{statement}
 use Rattle.records.proofs.pairs_of.Tie as tie
@@ -13,7 +13,7 @@ unfolding pairsOf
 returns c = rw (eq-eqb _ _ (c .if1 .taken))
 
 sub-result : tie.Need-sub-result
-sub-result c = omega (arith, len-room _ _ (good-in-range _ _ (c .before .pre)) (c .if1 .left))
+sub-result c = omega (arith, len-room _ _ (c .before .pre) (c .if1 .left))
 
 returns-2 : tie.Need-returns-2
 unfolding pairsOf
