@@ -1,6 +1,6 @@
 //! What is measured.
 
-use crate::calls::{Call, Lent};
+use crate::calls::{Call, Lent, LIBRARY};
 use crate::maps::{self, Map};
 use crate::measure::{checks_in_turn, run, Effort, Row, Want};
 use crate::report::{grouped, print_group, print_row};
@@ -19,6 +19,11 @@ const SEARCH: &str = "Search";
 const EDITS: &str = "Edits";
 pub const GROWS: &str = "Growth of the check, from a cold start";
 const WORST: &str = "Worst maps and journals";
+
+/// The library's answer to one check of a map of so many full blocks.
+pub fn check_once(blocks: usize) -> u32 {
+    LIBRARY.make(&Call::Check, &mut lend(&maps::full(8, blocks, ROOM), Vec::new())).number
+}
 
 pub struct Bench {
     pub effort: Effort,

@@ -1,9 +1,11 @@
 //! Times the proved library against the baseline and writes what it found.
 //!
 //!     harness FOLDER [--quick]
+//!     harness --once BLOCKS
 //!
 //! Prints a row for each input and writes COST.md and growth.svg to the folder. It ends with 1 if
-//! the two answer differently; no time makes it fail.
+//! the two answer differently; no time makes it fail. With --once it makes one check of a map of so
+//! many full blocks, for a program that counts its instructions.
 
 mod calls;
 mod cases;
@@ -21,12 +23,16 @@ const QUICK: Effort = Effort { least_pairs: 11, most_pairs: 500, budget: Duratio
 
 fn main() -> std::io::Result<()> {
     let words: Vec<String> = std::env::args().skip(1).collect();
+    if let [once, blocks] = words.as_slice() {
+        if once == "--once" {
+            return check_once(blocks);
+        }
+    }
     let (folder, effort) = match words.as_slice() {
         [folder] => (folder, FULL),
         [folder, quick] if quick == "--quick" => (folder, QUICK),
         _ => {
-            eprintln!("usage: harness FOLDER [--quick]");
-            std::process::exit(2);
+            usage();
         }
     };
     let mut bench = Bench { effort, rows: Vec::new() };
@@ -36,5 +42,16 @@ fn main() -> std::io::Result<()> {
     std::fs::write(format!("{folder}/COST.md"), report::page(&bench))?;
     std::fs::write(format!("{folder}/growth.svg"), chart::growth(&bench.rows))?;
     println!("\n{}\n\nwritten: {folder}/COST.md, {folder}/growth.svg", report::summary(&bench.rows));
+    Ok(())
+}
+
+fn usage() -> ! {
+    eprintln!("usage: harness FOLDER [--quick], or harness --once BLOCKS");
+    std::process::exit(2);
+}
+
+fn check_once(blocks: &str) -> std::io::Result<()> {
+    let Ok(blocks) = blocks.parse() else { usage() };
+    println!("{}", cases::check_once(blocks));
     Ok(())
 }
