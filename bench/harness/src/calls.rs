@@ -55,14 +55,50 @@ pub static BASELINE: Side = Side {
     reinstate: base::base_reinstate,
 };
 
+/// An object that is offered. It starts anywhere in 64 bytes, since no host promises more.
+#[derive(Clone)]
+pub struct Offered {
+    buffer: Vec<u8>,
+    start: usize,
+    size: usize,
+}
+
+impl Offered {
+    pub fn new(object: &[u8]) -> Offered {
+        let mut buffer = object.to_vec();
+        buffer.resize(object.len() + 64, 0);
+        Offered { buffer, start: 0, size: object.len() }
+    }
+
+    /// The same object, 4 bytes farther; after 64 bytes from the start again.
+    fn shift(&mut self) {
+        let start = (self.start + 4) % 64;
+        self.buffer.copy_within(self.start..self.start + self.size, start);
+        self.start = start;
+    }
+
+    fn bytes(&self) -> &[u8] {
+        &self.buffer[self.start..self.start + self.size]
+    }
+}
+
 /// A call beside the buffers that are lent to it.
 #[derive(Clone)]
 pub enum Call {
     Check,
     Search { window: [i32; 4] },
-    Add { edit: u32, object: Vec<u8> },
+    Add { edit: u32, object: Offered },
     Remove { edit: u32, at: u32 },
     Reinstate { edit: u32, at: u32 },
+}
+
+impl Call {
+    /// The same call, with its object at another place.
+    pub fn shift(&mut self) {
+        if let Call::Add { object, .. } = self {
+            object.shift();
+        }
+    }
 }
 
 /// What is lent to a call.
@@ -97,7 +133,7 @@ impl Side {
                     (self.search)(map, map_len, used, w.0, w.1, w.2, w.3, list, list_len, a, b, c)
                 }
                 Call::Add { edit, object } => {
-                    let (bytes, size) = (object.as_ptr(), object.len());
+                    let (bytes, size) = (object.bytes().as_ptr(), object.size);
                     (self.add)(map, map_len, used, journal, room, *edit, bytes, size, a, b, c, d)
                 }
                 Call::Remove { edit, at } => {

@@ -1,6 +1,6 @@
 //! What is measured.
 
-use crate::calls::{Call, Lent, LIBRARY};
+use crate::calls::{Call, Lent, Offered, LIBRARY};
 use crate::maps::{self, Map};
 use crate::measure::{checks_in_turn, run, Effort, Row, Want};
 use crate::report::{grouped, print_group, print_row};
@@ -93,7 +93,7 @@ impl Bench {
         let (last, middle) = (slots - 1, slots / 2 + 5);
         let almost = maps::journal(4_095, last, rising);
         let full = maps::journal(4_096, last, rising);
-        let add = Call::Add { edit: 9_999, object: maps::object(101, &[(5, 5)], 1) };
+        let add = Call::Add { edit: 9_999, object: Offered::new(&maps::object(101, &[(5, 5)], 1)) };
         let mut row = |name: &str, map: &Map, journal: &[u8], call, want| {
             self.row(EDITS, &format!("{name}, {size}"), lend(map, journal.to_vec()), call, want);
         };
@@ -112,7 +112,7 @@ impl Bench {
         let [record_add, record_remove] = [4_095, 4_093];
         assert!(maps::kind_of(record_add) == 1 && maps::kind_of(record_remove) == 2);
         let stored = map.object_of(maps::slot_of(record_add, last));
-        let repeat = Call::Add { edit: rising(record_add), object: stored };
+        let repeat = Call::Add { edit: rising(record_add), object: Offered::new(&stored) };
         row("repeated add, journal full", &map, &full, repeat, Want::DoneBefore);
         let at = maps::slot_of(record_remove, last) as u32;
         let repeat = Call::Remove { edit: rising(record_remove), at };
@@ -160,7 +160,7 @@ impl Bench {
 
         let pairs: Vec<(i32, i32)> = (0..32_768).map(|i| (i, -i)).collect();
         let object = maps::object(101, &pairs, pairs.len());
-        let call = Call::Add { edit: 1, object: object.clone() };
+        let call = Call::Add { edit: 1, object: Offered::new(&object) };
         let empty = Map::new(8);
         let lent = lend(&empty, vec![0; 160]);
         self.row(WORST, "add: object of 32,768 pairs to an empty map", lent, call.clone(), Want::Done);

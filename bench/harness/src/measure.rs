@@ -52,19 +52,19 @@ pub struct Effort {
 const SAMPLE_NS: f64 = 20_000.0;
 
 /// Stops the program if the sides differ in an answer or a byte.
-pub fn run(group: &'static str, name: &str, lent: Lent, call: Call, want: Want, effort: &Effort) -> Row {
+pub fn run(group: &'static str, name: &str, lent: Lent, mut call: Call, want: Want, effort: &Effort) -> Row {
     let (answer, after) = compare(name, &lent, &call, want);
     let changes = Changes::between(&lent, &after);
     let mut work = after;
     changes.undo(&mut work);
 
     // what a call changes is put back outside the timing
-    let mut sample = |side: &Side, batch: usize| -> f64 {
-        let time = timed(side, &call, &mut work, batch);
+    let mut sample = |side: &Side, call: &Call, batch: usize| -> f64 {
+        let time = timed(side, call, &mut work, batch);
         changes.undo(&mut work);
         time
     };
-    let mut warm = || sample(&LIBRARY, 1).max(sample(&BASELINE, 1));
+    let mut warm = || sample(&LIBRARY, &call, 1).max(sample(&BASELINE, &call, 1));
     let once = (0..3).map(|_| warm()).fold(f64::MAX, f64::min).max(1.0);
     let batch = if changes.none() { (SAMPLE_NS / once).ceil() as usize } else { 1 };
 
@@ -76,12 +76,13 @@ pub fn run(group: &'static str, name: &str, lent: Lent, call: Call, want: Want, 
     {
         // who is first changes at random, so as not to keep step with other programs
         if order.below(2) == 0 {
-            library.push(sample(&LIBRARY, batch));
-            baseline.push(sample(&BASELINE, batch));
+            library.push(sample(&LIBRARY, &call, batch));
+            baseline.push(sample(&BASELINE, &call, batch));
         } else {
-            baseline.push(sample(&BASELINE, batch));
-            library.push(sample(&LIBRARY, batch));
+            baseline.push(sample(&BASELINE, &call, batch));
+            library.push(sample(&LIBRARY, &call, batch));
         }
+        call.shift();
     }
     // else a call was timed on a map that an earlier one had changed
     assert!(work.map == lent.map && work.journal == lent.journal, "{name}: not put back");
