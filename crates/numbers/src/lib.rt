@@ -4,7 +4,7 @@ ghost use Prim.Native.Nat.{_+_, _*_, _≤_, _<_};
 ghost use lib.ListN.{length, replicate};
 ghost use lib.Seq.{sets};
 ghost use lib.Signed.{leZ};
-ghost use Rattle.numbers.specs.Bytes.{u16At, u32At, bytesOf, sameBytes, Alike, Tells};
+ghost use Rattle.numbers.specs.Bytes.{u16At, u32At, bytesOf, sameBytes, Alike, Line, Tells};
 ghost use Rattle.numbers.specs.Coordinates.{signed16, signed32, valueOf, unmarked, signFlipped};
 ghost use Rattle.numbers.specs.Ranges.{share};
 
@@ -187,37 +187,51 @@ pub fn clear(d: &mut [u8], n: usize)
     }
 }
 
-// Whether two slices hold the same 256 bytes from a place on. Four lines of 64 bytes are compared side by side, so that all four are fetched at once, and the
-// loop has no early end, so that many bytes are compared at a time.
-fn same_lines(a: &[u8], b: &[u8], at: usize) -> bool
-    requires { ⌜ (at + 256 ≤ length (now a)) × (at + 256 ≤ length (now b)) ⌝ }
-    ensures { λ r. ⌜ Tells r (Alike (now (a .entry)) (now (b .entry)) at (at + 256)) ⌝ }
+// Whether two slices hold the same bytes from a place to another. The loop has no early end, so that many bytes are compared at a time.
+fn same_part(a: &[u8], b: &[u8], from: usize, to: usize) -> bool
+    requires { ⌜ (from ≤ to) × (to ≤ length (now a)) × (to ≤ length (now b)) ⌝ }
+    ensures { λ r. ⌜ Tells r (Alike (now (a .entry)) (now (b .entry)) from to) ⌝ }
 {
     let mut alike = true;
-    let mut i = at;
-    while i < at + 64 {
-        alike = alike
-            & (a[i] == b[i])
-            & (a[i + 64] == b[i + 64])
-            & (a[i + 128] == b[i + 128])
-            & (a[i + 192] == b[i + 192]);
+    let mut i = from;
+    while i < to {
+        alike = alike & (a[i] == b[i]);
         i += 1;
     }
     alike
 }
 
-// Whether two slices of one length hold the same bytes from a place on.
-fn same_rest(a: &[u8], b: &[u8], at: usize) -> bool
-    requires { ⌜ (at ≤ length (now a)) × (length (now a) ≡ length (now b)) ⌝ }
-    ensures { λ r. ⌜ Tells r (Alike (now (a .entry)) (now (b .entry)) at (length (now (a .entry)))) ⌝ }
+// Whether two slices hold the same bytes in the line of 64 bytes from a place on, but for its first 16, and in the first 16 of the line that comes 512 bytes
+// later. So that line is on its way long before it is compared.
+fn same_line(a: &[u8], b: &[u8], at: usize) -> bool
+    requires { ⌜ (at + 576 ≤ length (now a)) × (at + 576 ≤ length (now b)) ⌝ }
+    ensures { λ r. ⌜ Tells r (Line (now (a .entry)) (now (b .entry)) at (at + 16)) ⌝ }
 {
     let mut alike = true;
     let mut i = at;
-    while i < a.len() {
-        alike = alike & (a[i] == b[i]);
+    while i < at + 16 {
+        alike = alike
+            & (a[i + 512] == b[i + 512])
+            & (a[i + 16] == b[i + 16])
+            & (a[i + 32] == b[i + 32])
+            & (a[i + 48] == b[i + 48]);
         i += 1;
     }
     alike
+}
+
+// Whether two slices of one length, 512 at least, hold the same bytes.
+fn same_long(a: &[u8], b: &[u8]) -> bool
+    requires { ⌜ (512 ≤ length (now a)) × (length (now a) ≡ length (now b)) ⌝ }
+    ensures { λ r. ⌜ Tells r (Alike (now (a .entry)) (now (b .entry)) 0 (length (now (a .entry)))) ⌝ }
+{
+    let mut alike = same_part(a, b, 0, 512);
+    let mut at = 0;
+    while 576 <= a.len() - at {
+        alike = alike & same_line(a, b, at);
+        at += 64;
+    }
+    alike & same_part(a, b, at, a.len())
 }
 
 // Whether two slices hold the same bytes.
@@ -227,11 +241,8 @@ pub fn same(a: &[u8], b: &[u8]) -> bool
     if a.len() != b.len() {
         return false;
     }
-    let mut alike = true;
-    let mut at = 0;
-    while 256 <= a.len() - at {
-        alike = alike & same_lines(a, b, at);
-        at += 256;
+    if a.len() < 512 {
+        return same_part(a, b, 0, a.len());
     }
-    alike & same_rest(a, b, at)
+    same_long(a, b)
 }
