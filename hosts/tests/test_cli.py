@@ -490,6 +490,7 @@ class FilesInTrouble(CliTest):
         words = [name, str(self.map)]
         if slot >= 0:
             words += [str(self.journal), "--edit", "2", "--slot", str(slot)]
+        taffrail.check(b"")  # loads the library, which that user may be unable to reach
         reading, writing = os.pipe()
         child = os.fork()
         if child == 0:
