@@ -1,4 +1,4 @@
--- The first number that passes a test, a run of numbers more at a time: one cell, or the cells of a block. Assumes nothing.
+-- The first number that passes a test, a run of numbers more at a time. Assumes nothing.
 --     first-same      a test that answers alike on the numbers below n has the same first
 --     first-after     the first of a run behind numbers that all fail is the first of all
 --     firstOr p n d   the first number below n that passes, or else d
@@ -7,7 +7,6 @@ use Prim.Native.Nat.{ℕ, _+_, _-_, _≤_, _<_}
 use mathlib.Core.Bool.{Bool, true, false, cond}
 use mathlib.Core.Path.{_≡_, refl, sym, ap, _∙_}
 use mathlib.Core.Logic.{⊎-elim}
-use native.Mathlib.Nat.{add-zero}
 use native.Mathlib.Omega.{arith}
 use borrow.Author.Tests.{lt-ltb, le-ltb, ltb-true, ltb-false}
 use lib.Dec.{ltb}
@@ -59,20 +58,6 @@ or-run p n c d f l h = go (ltb (first p n) n) refl (ltb f c) refl
     go false x false y =
         let g = ltb-false f c y in
         rw (x, y, later (ltb-false (first p n) n x), le-ltb (n + f) (n + c) (omega arith))
-
--- one number more
-pub or-one : (p : ℕ → Bool) (n d : ℕ) → n < d → firstFree (p n) (firstOr p n d) n ≡ firstOr p (n + 1) d
-or-one p n d l = go (p n) refl
-  where
-    at-zero : {b : Bool} → p n ≡ b → (j : ℕ) → j ≡ 0 → p (n + j) ≡ b
-    at-zero e j z = let s : n + j ≡ n = omega arith in ap p s ∙ e
-
-    go : (b : Bool) → p n ≡ b → firstFree b (firstOr p n d) n ≡ firstOr p (n + 1) d
-    go true e =
-        rw add-zero at
-        (or-run p n 1 d 0 (omega arith) (record { within = omega arith; before = λ j k. absurd (omega arith); here = λ k. at-zero e 0 refl }))
-    go false e =
-        or-run p n 1 d 1 (omega arith) (record { within = omega arith; before = λ j k. at-zero e j (omega arith); here = λ k. absurd (omega arith) })
 
 -- below 0 there is none, and below n, n itself stands for none
 pub or-none : (p : ℕ → Bool) (d : ℕ) → firstOr p 0 d ≡ d

@@ -76,6 +76,13 @@ module _ {place : ℕ → ℕ} {n : ℕ} {bad : ℕ → Bool} {at c : ℕ} (k : 
       ap (Bad number) (k .here)
       ∙ sym (cells-bad number (λ i. bad (place i)) place n (record { within = k .upto; before = k .before; here = λ g. ap bad (sym (k .here)) ∙ sym e ∙ f }) l)
 
+  -- the number of the first that is bad, n where none is
+  pub look-found : c < n → bad at ≡ true → c ≡ first (λ i. bad (place i)) n
+  look-found l e = sym (first-is (λ i. bad (place i)) n c (k .upto) (k .before) (λ g. ap bad (sym (k .here)) ∙ e))
+
+  pub look-none : n ≤ c → n ≡ first (λ i. bad (place i)) n
+  look-none l = sym (first-none (λ i. bad (place i)) n (λ i g. k .before i (omega arith)))
+
   -- every cell was looked at
   pub look-good : (number : ℕ) → n ≤ c → Good ≡ cellsJudged number (λ i. bad (place i)) place n
   look-good number l = sym (cells-good number (λ i. bad (place i)) place n (λ i g. k .before i (omega arith)))

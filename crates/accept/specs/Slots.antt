@@ -2,14 +2,9 @@
 --     slotIn m s        the fields of slot s
 --     freeSlot m n      the first free slot in slot order, or 256 * n where none is free
 --     noLen m p         whether the slot at a place has no Len, which is what makes it free
---     slotTold ..       what the slot at a place is judged to be
---     isBad, isFree     whether that is at fault, or free
 --     firstFree b f s   the first free slot by the one found before s, f, and whether s is free
---     toldWith f j      what was judged, with the first free slot where it is good
 --     freeIn m b j      whether slot j of the block at b is free
 --     blockJudged ..    the first slot at fault of the block at a place
---     blockTold ..      what the slots of the block at a place are judged to be: the place of the first at fault, or else the first free one, 256 where
---                       none is free
 --     withFree m v      a verdict, with the first free slot where it is accepted
 use Prim.Native.Nat.{ℕ, _+_, _*_}
 use mathlib.Core.Bool.{Bool, true, false, cond}
@@ -26,12 +21,7 @@ use Rattle.accept.specs.declared.Verdict.{Verdict}
 use Rattle.accept.specs.declared.Verdict.the-variants.{Accepted, Refused}
 use Rattle.accept.specs.declared.Examined.{Examined}
 use Rattle.accept.specs.declared.Examined.the-variants as examined
-use Rattle.accept.specs.declared.Told.{Told}
-use Rattle.accept.specs.declared.Told.the-variants as told
 use Rattle.accept.specs.declared.Judged.{Judged}
-use Rattle.accept.specs.declared.Judged.the-variants.{Good, Bad}
-use Rattle.accept.specs.declared.BlockTold.{BlockTold}
-use Rattle.accept.specs.declared.BlockTold.the-variants as block-told
 use Rattle.accept.specs.Rules.{slotAt}
 use Rattle.accept.specs.Judging.{badSlot}
 use Rattle.accept.specs.Verdicts.{cellsJudged}
@@ -45,35 +35,15 @@ freeSlot m n = first (λ s. sameState Free (stateOf (slotIn m s))) (256 * n)
 abbrev pub noLen : List ℕ → ℕ → Bool
 noLen m p = eqb (u16At m (p + 20)) 0
 
-unfoldable pub slotTold : (ℕ → ℕ → Bool) → List ℕ → ℕ → ℕ → ℕ → Told
-slotTold touch m used v p = cond (noLen m p) told.Free (cond (badSlot touch m used v p) told.Bad told.Good)
-
-abbrev pub isBad : Told → Bool
-isBad told.Free = false
-isBad told.Good = false
-isBad told.Bad = true
-
-abbrev pub isFree : Told → Bool
-isFree told.Free = true
-isFree told.Good = false
-isFree told.Bad = false
-
 abbrev pub firstFree : Bool → ℕ → ℕ → ℕ
 firstFree true free s = cond (ltb s free) s free
 firstFree false free s = free
-
-abbrev pub toldWith : ℕ → Judged → BlockTold
-toldWith free Good = block-told.Good free
-toldWith free (Bad n p) = block-told.Bad p
 
 abbrev pub freeIn : List ℕ → ℕ → ℕ → Bool
 freeIn m b j = noLen m (cellIn b slotSize j)
 
 abbrev pub blockJudged : (ℕ → ℕ → Bool) → List ℕ → ℕ → ℕ → ℕ → Judged
 blockJudged touch m used v b = cellsJudged 7 (λ j. badSlot touch m used v (cellIn b slotSize j)) (cellIn b slotSize) 256
-
-unfoldable pub blockTold : (ℕ → ℕ → Bool) → List ℕ → ℕ → ℕ → ℕ → BlockTold
-blockTold touch m used v b = toldWith (first (freeIn m b) 256) (blockJudged touch m used v b)
 
 abbrev pub withFree : List ℕ → Verdict → Examined
 withFree m (Accepted n) = examined.Accepted n (freeSlot m n)

@@ -24,6 +24,7 @@ ghost use mathlib.Core.Bool.{true, _&&_};
 ghost use Prim.Native.Nat.{ℕ, _+_, _*_, _≤_, _<_};
 ghost use lib.ListN.{length, drop};
 ghost use Rattle.numbers.specs.Bytes.{u32At};
+ghost use Rattle.numbers.specs.Below.{first};
 ghost use Rattle.records.specs.Sizes.{headerSize, indexBlockSize, indexPage, slotSize, symbolBlockSize, entrySize, mapLimit};
 ghost use Rattle.records.specs.Headers.{headerOf, indexHead};
 ghost use Rattle.records.specs.Slots.{lenGood, bytesIn, bytesInRange};
@@ -33,9 +34,9 @@ ghost use Rattle.chain.specs.Tables.{Empty, Placed, Filled, Table, EndsTable, e
 ghost use Rattle.chain.specs.declared.Walk.the-variants.{Blocks};
 ghost use Rattle.accept.specs.declared.Verdict.the-variants.{Accepted};
 ghost use Rattle.accept.specs.declared.Examined.the-variants as examined;
-ghost use Rattle.accept.specs.Slots.{slotTold, isBad, isFree, firstFree, blockTold, withFree};
+ghost use Rattle.accept.specs.Slots.{firstFree, freeIn, blockJudged, withFree};
 ghost use Rattle.accept.specs.Rules.{indexRule, symbolRule, indexKind, symbolKind};
-ghost use Rattle.accept.specs.Judging.{versionOf, lengthGood, partGood, headerFits, objectGood, slotGood, symbolGood, badEntry};
+ghost use Rattle.accept.specs.Judging.{versionOf, lengthGood, partGood, headerFits, objectGood, slotGood, badSlot, symbolGood, badEntry};
 ghost use Rattle.accept.specs.Verdicts.{numberOf, placeOf, unless, fieldsJudged, headerJudged, cellsJudged, entriesJudged, symbolsJudged, slotsJudged, afterIndex, verdict};
 
 // What the check answers. Refusals carry document 01's number and place.
@@ -48,19 +49,6 @@ pub enum Verdict {
 pub enum Examined {
     Accepted { blocks: usize, free: usize },
     Refused { number: u32, place: u32 },
-}
-
-// What one slot is judged to be: free; good, or erased, which is not judged further; or at fault.
-pub enum Told {
-    Free,
-    Good,
-    Bad,
-}
-
-// What the slots of one block are judged to be: good, with the first free one, 256 where none is free; or at fault, with the place of the first that is.
-pub enum BlockTold {
-    Good { free: usize },
-    Bad { place: u32 },
 }
 
 // What was judged: good, or at fault with document 01's number and place.
@@ -211,45 +199,19 @@ pub fn slot_good(m: &[u8], used: usize, version: u16, index: &[u32], t: Slot) ->
     object_good(m, used, version, index, t)
 }
 
-// What the slot at a place is judged to be.
-fn judge_slot(m: &[u8], used: usize, version: u16, index: &[u32], at: usize) -> Told
+// Whether the slot at a place is live and not good.
+fn bad_slot(m: &[u8], used: usize, version: u16, index: &[u32], at: usize) -> bool
     requires { ⌜ (at + slotSize ≤ length (now m)) × (used ≤ mapLimit) × (used ≤ length (now m)) × (used + indexPage ≤ length (now index) * indexPage) × Filled indexBlockSize indexPage used (now index) ⌝ }
-    ensures { λ r. ⌜ r ≡ slotTold (endsMeet indexBlockSize (now (index .entry))) (now (m .entry)) used version at ⌝ }
+    ensures { λ r. ⌜ r ≡ badSlot (endsMeet indexBlockSize (now (index .entry))) (now (m .entry)) used version at ⌝ }
 {
     let t = Slot::at(m, at);
     if t.len == 0 {
-        return Told::Free;
+        return false;
     }
     if t.sym == 0 {
-        return Told::Good;
+        return false;
     }
-    if slot_good(m, used, version, index, t) {
-        Told::Good
-    } else {
-        Told::Bad
-    }
-}
-
-// Whether a slot was judged to be at fault.
-fn is_bad(told: Told) -> bool
-    ensures { λ r. ⌜ r ≡ isBad told ⌝ }
-{
-    match told {
-        Told::Free => false,
-        Told::Good => false,
-        Told::Bad => true,
-    }
-}
-
-// Whether a slot was judged to be free.
-fn is_free(told: Told) -> bool
-    ensures { λ r. ⌜ r ≡ isFree told ⌝ }
-{
-    match told {
-        Told::Free => true,
-        Told::Good => false,
-        Told::Bad => false,
-    }
+    !slot_good(m, used, version, index, t)
 }
 
 // The first free slot, by the one found before s, and whether s is free.
@@ -263,24 +225,41 @@ fn first_free(is: bool, free: usize, s: usize) -> usize
     }
 }
 
-// The slots of a block.
-fn judge_block_slots(m: &[u8], used: usize, version: u16, index: &[u32], block: usize) -> BlockTold
-    requires { ⌜ (block + indexBlockSize ≤ used) × (used ≤ mapLimit) × (used ≤ length (now m)) × (used + indexPage ≤ length (now index) * indexPage) × Filled indexBlockSize indexPage used (now index) ⌝ }
-    ensures { λ r. ⌜ r ≡ blockTold (endsMeet indexBlockSize (now (index .entry))) (now (m .entry)) used version block ⌝ }
+// The first free slot of a block, 256 where none is free. So small a loop has the whole block on its way from memory before its slots are judged.
+fn free_in_block(m: &[u8], block: usize) -> usize
+    requires { ⌜ (block + indexBlockSize ≤ length (now m)) × (block < 4294967296) ⌝ }
+    ensures { λ r. ⌜ r ≡ first (freeIn (now (m .entry)) block) 256 ⌝ }
 {
-    let mut at = block + 4;
-    let mut free = 256;
+    let mut at = block + 4 + Slot::LEN;
     let mut j = 0;
     while j < 256 {
-        let told = judge_slot(m, used, version, index, at);
-        if is_bad(told) {
-            return BlockTold::Bad { place: at as u32 };
+        if u16_at(m, at) == 0 {
+            return j;
         }
-        free = first_free(is_free(told), free, j);
         at += Slot::SIZE;
         j += 1;
     }
-    BlockTold::Good { free }
+    256
+}
+
+// 7, of one index block: the first slot at fault.
+fn judge_block_slots(m: &[u8], used: usize, version: u16, index: &[u32], block: usize) -> Judged
+    requires { ⌜ (block + indexBlockSize ≤ used) × (used ≤ mapLimit) × (used ≤ length (now m)) × (used + indexPage ≤ length (now index) * indexPage) × Filled indexBlockSize indexPage used (now index) ⌝ }
+    ensures { λ r. ⌜ r ≡ blockJudged (endsMeet indexBlockSize (now (index .entry))) (now (m .entry)) used version block ⌝ }
+{
+    let mut at = block + 4;
+    let mut j = 0usize;
+    while j < 256 {
+        if bad_slot(m, used, version, index, at) {
+            return Judged::Bad {
+                number: 7,
+                place: at as u32,
+            };
+        }
+        at += Slot::SIZE;
+        j += 1;
+    }
+    Judged::Good
 }
 
 // 7: the live slot at fault of lowest number. Where there is none, the first free slot, 256 times the blocks where none is free.
@@ -294,14 +273,14 @@ fn judge_slots(m: &[u8], used: usize, index: &[u32], n: usize) -> Examined
     let mut k = 0;
     while k < n {
         at = u32_at(m, at) as usize;
-        let told = judge_block_slots(m, used, version, index, at);
-        match told {
-            BlockTold::Bad { place } => {
-                return Examined::Refused { number: 7, place };
+        let f = free_in_block(m, at);
+        free = first_free(f < 256, free, 256 * k + f);
+        let j = judge_block_slots(m, used, version, index, at);
+        match j {
+            Judged::Bad { number, place } => {
+                return Examined::Refused { number, place };
             }
-            BlockTold::Good { free: f } => {
-                free = first_free(f < 256, free, 256 * k + f);
-            }
+            Judged::Good => {}
         }
         k += 1;
     }

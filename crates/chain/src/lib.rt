@@ -5,7 +5,7 @@ ghost use mathlib.Core.Path.{_≡_};
 ghost use Prim.Native.Nat.{ℕ, _+_, _-_, _*_, _%_, _≤_, _<_};
 ghost use lib.ListN.{length, getD};
 ghost use Rattle.chain.specs.Chains.{block, walked, taken};
-ghost use Rattle.chain.specs.Tables.{Empty, Placed, Table, Carried, Filled, lastEnd, entryMeets, tableMeets, endsMeet, keepsOff, kindRule, goodBlock, Bounds, Ready};
+ghost use Rattle.chain.specs.Tables.{Empty, Placed, Table, Carried, Filled, entryMeets, tableMeets, endsMeet, keepsOff, kindRule, goodBlock, Bounds, Ready};
 ghost use Rattle.chain.specs.Cells.{cellAt, Ordered};
 
 // What a walk answers: the number of blocks; or the place of the first link at fault, and the number of blocks before it.
@@ -81,24 +81,22 @@ pub fn fill(t: &mut [u32], k: usize, size: u32)
     }
 }
 
-// The end of the last block of a filled table that starts before `end`, or 0.
-fn last_end(t: &[u32], page: usize, size: usize, end: usize) -> usize
-    requires { ⌜ (0 < page) × (size ≤ 65536) × (0 < end) × (end ≤ 16777216) × (end + page ≤ length (now t) * page) ⌝ }
-    ensures { λ r. ⌜ r ≡ lastEnd size page (now (t .entry)) end ⌝ }
-{
-    let b = (end - 1) / page;
-    let before = wide(t[b]);
-    let here = wide(t[b + 1]);
-    if here < end + size { here } else { before }
-}
-
 // Whether some block of a filled table shares a byte with the range, whatever its length: of the blocks that start before the range's end the last one also
-// ends last.
+// ends last. The entry behind the range's last page tells it, unless that block starts behind the range; then the entry before does.
 pub fn meets_block(t: &[u32], page: usize, size: usize, start: usize, len: usize) -> bool
     requires { ⌜ (0 < page) × (0 < size) × (size ≤ 65536) × (0 < len) × (start + len ≤ 16777216) × (start + len + page ≤ length (now t) * page) × Filled size page (start + len) (now t) ⌝ }
     ensures { λ r. ⌜ r ≡ endsMeet size (now (t .entry)) start len ⌝ }
 {
-    start < last_end(t, page, size, start + len)
+    let end = start + len;
+    let b = (end - 1) / page;
+    let here = wide(t[b + 1]);
+    if here <= start {
+        return false;
+    }
+    if here < end + size {
+        return true;
+    }
+    start < wide(t[b])
 }
 
 // Whether a block at p would meet what its kind keeps off.

@@ -7,20 +7,19 @@ use mathlib.Core.List.{List}
 use denote.Ref.{now}
 use borrow.Author.Needs.{needs}
 use lib.Dec.{ltb}
-use Rattle.numbers.proofs.Below.{First}
+use Rattle.numbers.proofs.Below.{First, first-law}
 use Rattle.records.specs.Sizes.{slotSize}
 use Rattle.records.specs.declared.State.the-variants.{Free}
 use Rattle.records.specs.Slots.{stateOf, sameState}
 use Rattle.chain.proofs.Chains.{walked-pass}
 use Rattle.accept.specs.declared.Examined.the-variants.{Accepted}
-use Rattle.accept.specs.declared.Judged.the-variants.{Good}
 use Rattle.accept.specs.Rules.{indexRule, touches}
 use Rattle.accept.specs.Judging.{versionOf, badSlot}
-use Rattle.accept.specs.Slots.{slotIn, freeSlot, noLen, firstFree, freeIn, blockJudged, blockTold}
+use Rattle.accept.specs.Slots.{slotIn, freeSlot, noLen, firstFree, freeIn, blockJudged}
 use Rattle.accept.specs.Verdicts.{slotsJudged}
 use Rattle.accept.proofs.Judging.{same-touch}
 use Rattle.accept.proofs.Firsts.{first-same, firstOr, or-run, or-none, or-all}
-use Rattle.accept.proofs.Slots.{block-bad, block-good, free-len}
+use Rattle.accept.proofs.Slots.{free-len}
 use Rattle.accept.proofs.Looking.{Along, along-start, along-inside, along-cell, along-on, along-bad, along-good, pass-few}
 use Rattle.accept.proofs.judge_slots.Statement.{statement}
 use Rattle.accept.proofs.judge_slots.Tie as tie
@@ -51,47 +50,54 @@ few c =
 u32-at-requires : tie.Need-u32-at-requires Inv-loop μ-loop
 u32-at-requires c κs = omega (arith, c .before .loop .inv .0 .room)
 
-judge-block-slots-requires : tie.Need-judge-block-slots-requires Inv-loop μ-loop
-judge-block-slots-requires c κs =
+free-in-block-requires : tie.Need-free-in-block-requires Inv-loop μ-loop
+free-in-block-requires c κs =
     let t = c .before in
     let pre = t .before .before .before .before .before .pre in
-    (along-inside (t .before .loop .inv .0) (t .loop-test .taken) (c .u32-at .ensures), pre .1, pre .2, pre .3, pre .5)
+    let l = along-inside (t .before .loop .inv .0) (t .loop-test .taken) (c .u32-at .ensures) in
+    (omega (arith, pre .2), omega (arith, pre .1))
+
+judge-block-slots-requires : tie.Need-judge-block-slots-requires Inv-loop μ-loop
+judge-block-slots-requires c κs =
+    let u = c .before .before in
+    let t = u .before in
+    let pre = t .before .before .before .before .before .pre in
+    (along-inside (t .before .loop .inv .0) (t .loop-test .taken) (u .u32-at .ensures), pre .1, pre .2, pre .3, pre .5)
 
 -- what the slots of this turn's block are judged to be, by the chain in the place of the table
-told : (c : tie.After-judge-block-slots Inv-loop μ-loop) → let a = c .before .before .before .before .before .before .before .args in c .judge-block-slots .result ≡ blockTold (touches (now (a .m)) (a .n)) (now (a .m)) (a .used) (versionOf (now (a .m))) (c .before .u32-at .result)
+told : (c : tie.After-judge-block-slots Inv-loop μ-loop) → let u = c .before .before .before in let a = u .before .before .before .before .before .before .args in c .judge-block-slots .result ≡ blockJudged (touches (now (a .m)) (a .n)) (now (a .m)) (a .used) (versionOf (now (a .m))) (u .u32-at .result)
 told c =
-    let u = c .before .before .before .before in
-    rw (← same-touch (u .before .before .before .pre .6), ← u .u16-at .ensures) (c .judge-block-slots .ensures)
+    let v = c .before .before .before .before .before .before in
+    rw (← same-touch (v .before .before .before .pre .6), ← v .u16-at .ensures) (c .judge-block-slots .ensures)
 
 returns : tie.Need-returns Inv-loop μ-loop
 unfolding slotsJudged
 returns c =
     let k = c .before .before .before in
-    let t = k .before .before in
-    let a = t .before .before .before .before .before .args in
-    rw (← along-bad (t .before .loop .inv .0) (t .loop-test .taken) (k .before .u32-at .ensures) 7 (block-bad (touches (now (a .m)) (a .n)) (now (a .m)) (a .used) (versionOf (now (a .m))) (k .before .u32-at .result) (sym (told k) ∙ c .before .told .given .1)))
+    let u = k .before .before .before in
+    let t = u .before in
+    rw (← along-bad (t .before .loop .inv .0) (t .loop-test .taken) (u .u32-at .ensures) 7 (sym (told k) ∙ c .before .j .given .1))
 
--- no slot of the block is at fault, and the first free one
-good : (c : tie.After-known-told2 Inv-loop μ-loop) → let t = c .before .before .before .before .before in let a = t .before .before .before .before .before .args in let p = c .before .before .before .before .u32-at .result in (blockJudged (touches (now (a .m)) (a .n)) (now (a .m)) (a .used) (versionOf (now (a .m))) p ≡ Good) × First (freeIn (now (a .m)) p) 256 (c .before .told2 .given .0 .0)
-good c =
-    let k = c .before .before .before in
-    let a = k .before .before .before .before .before .before .before .args in
-    block-good (touches (now (a .m)) (a .n)) (now (a .m)) (a .used) (versionOf (now (a .m))) (k .before .u32-at .result) (sym (told k) ∙ c .before .told2 .given .1)
+-- the first free slot of the block
+found : (c : tie.After-free-in-block Inv-loop μ-loop) → First (freeIn (now (c .before .before .before .before .before .before .before .args .m)) (c .before .u32-at .result)) 256 (c .free-in-block .result)
+found c = rw (c .free-in-block .ensures) (first-law (freeIn (now (c .before .before .before .before .before .before .before .args .m)) (c .before .u32-at .result)) 256)
 
 add-first-free : tie.Need-add-first-free Inv-loop μ-loop
-add-first-free c = omega (arith, pass-few (c .before .before .before .before .before .before .loop .inv .0 .pass) (omega arith), good c .1 .within)
+add-first-free c = omega (arith, pass-few (c .before .before .before .loop .inv .0 .pass) (omega arith), found c .within)
 
 loop-again : tie.Need-loop-again Inv-loop μ-loop
 loop-again c =
-    let u = c .before .before .before .before .before in
+    let k = c .before .before in
+    let w = k .before in
+    let u = w .before .before in
     let t = u .before in
     let a = t .before .before .before .before .before .args in
     let v = t .before .loop .inv in
-    let f : ℕ = c .before .before .told2 .given .0 .0 in
-    let h = first-same (λ j l. free-len (now (a .m)) (256 * t .before .loop .k + j) ∙ ap (noLen (now (a .m))) (along-cell (v .0) (t .loop-test .taken) (u .u32-at .ensures) j l)) (good (c .before) .1) in
+    let f : ℕ = w .before .free-in-block .result in
+    let h = first-same (λ j l. free-len (now (a .m)) (256 * t .before .loop .k + j) ∙ ap (noLen (now (a .m))) (along-cell (v .0) (t .loop-test .taken) (u .u32-at .ensures) j l)) (found (w .before)) in
     let e : 256 * t .before .loop .k + 256 ≡ 256 * (t .before .loop .k + 1) = omega arith in (
-      along-on (v .0) (t .loop-test .taken) (u .u32-at .ensures) (omega arith) 7 (good (c .before) .0),
-      c .first-free .ensures ∙ ap (λ (x : ℕ). firstFree (ltb f 256) x (256 * t .before .loop .k + f)) (v .1)
+      along-on (v .0) (t .loop-test .taken) (u .u32-at .ensures) (omega arith) 7 (sym (told k) ∙ c .enum-told .given .1),
+      w .first-free .ensures ∙ ap (λ (x : ℕ). firstFree (ltb f 256) x (256 * t .before .loop .k + f)) (v .1)
           ∙ or-run (is-free (now (a .m))) (256 * t .before .loop .k) 256 (256 * a .n) f (omega (arith, t .loop-test .taken)) h
           ∙ ap (λ (x : ℕ). firstOr (is-free (now (a .m))) x (256 * a .n)) e,
     )
@@ -116,13 +122,14 @@ judge-slots-spec =
     loop-holds
     u32-at-requires
     (λ c. search needs)
+    free-in-block-requires
+    (λ c. omega (arith, pass-few (c .before .before .before .loop .inv .0 .pass) (omega arith)))
+    add-first-free
+    (λ c κs. search needs)
     judge-block-slots-requires
     (λ c. search needs)
     returns
     (λ c. search needs)
-    (λ c. omega (arith, pass-few (c .before .before .before .before .before .before .loop .inv .0 .pass) (omega arith)))
-    add-first-free
-    (λ c κs. search needs)
     (λ c. omega arith)
     (λ c. omega arith)
     loop-again
