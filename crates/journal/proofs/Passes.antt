@@ -25,7 +25,7 @@ use Rattle.journal.specs.declared.Judged.{Judged}
 use Rattle.journal.specs.declared.Judged.the-variants.{Bad, Good}
 use Rattle.journal.specs.declared.Look.the-variants.{Malformed, Held, New}
 use Rattle.journal.proofs.Below.{zero-one, not-true-is}
-use Rattle.journal.proofs.Records.{shape-in-use, in-use-past}
+use Rattle.journal.proofs.Records.{shape-in-use, in-use-past, in-use-within}
 use Rattle.journal.proofs.Journals.{good-tells, well-formed-parts, held-is, holder-only, held-tells}
 
 -- ---- the chain of a bucket
@@ -280,6 +280,9 @@ module _ {jn m : List ℕ} {n e : ℕ} (s : Sized jn m n e) where
         by-judged jn m n e (Good used held) q
         (λ p f. zero-one (cc))
         (λ p f. let z : held ≡ heldIn jn e (inUse jn) = cc in record { good = f; count = cc; kept = rw z (held-law jn e (inUse jn)) })
+
+    pub look-count : used ≤ total jn
+    look-count = omega (arith, tells .count, in-use-within jn)
 
     parts : wellFormed jn m n ≡ restUnused jn used
     parts = rw (well-formed-parts jn m n, le-leb _ _ (s .short), eq-eqb _ _ (s .whole), tells .good, tells .count)

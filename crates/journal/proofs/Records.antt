@@ -1,17 +1,20 @@
 -- The laws of a journal's records: what a good shape tells, and which records are in use. Assumes nothing.
-use Prim.Native.Nat.{ℕ, zero, suc, _+_, _*_, _≤_, _<_}
-use mathlib.Core.Bool.{true, false, not, _&&_}
+use Prim.Native.Nat.{ℕ, zero, suc, _+_, _*_, _/_, _%_, _≤_, _<_}
+use mathlib.Core.Bool.{Bool, true, false, not, _&&_}
 use mathlib.Core.Path.{_≡_, refl, sym, _∙_}
 use mathlib.Core.Logic.{⊎-elim}
 use mathlib.Core.List.{List}
 use native.Mathlib.Omega.{arith}
-use lib.Dec.{eqb, leb}
-use lib.ListN.{length, length-append}
-use borrow.Author.Tests.{eq-eqb, ne-eqb, le-leb, leb-true, eqb-true, eqb-false, not-true}
-use Rattle.numbers.proofs.Below.{never, First, first-law}
+use lib.Dec.{eqb, leb, ltb}
+use lib.ListN.{length, length-append, getD}
+use borrow.Author.Tests.{eq-eqb, ne-eqb, le-leb, leb-true, eqb-true, eqb-false, lt-ltb, le-ltb, not-true, not-false}
+use Rattle.numbers.specs.Bytes.{u32At, Zeros, Tells}
+use Rattle.numbers.specs.Below.{any}
+use Rattle.numbers.proofs.Bytes.{leAt-zero, leAt-zeros}
+use Rattle.numbers.proofs.Below.{never, any-none, any-false, First, first-law}
 use Rattle.numbers.proofs.Coordinates.{lt-or-ge}
 use Rattle.records.specs.declared.JournalRecord.{JournalRecord}
-use Rattle.records.specs.Journals.{kindGood, shapeGood, isUnused}
+use Rattle.records.specs.Journals.{recordOf, kindGood, shapeGood, isUnused}
 use Rattle.journal.specs.Journals.{recordIn, total, inUse, isFull, recordsTo, recordsOf}
 use Rattle.journal.proofs.Below.{and-tells}
 
@@ -90,3 +93,51 @@ pub recordsTo-same : (jn kn : List ℕ) (k : ℕ) → ((i : ℕ) → i < k → r
 unfolding recordsTo
 recordsTo-same jn kn zero h = refl
 recordsTo-same jn kn (suc k) h = rw (recordsTo-same jn kn k (λ i l. h i (omega arith)), h k (omega arith))
+
+-- ---- a record is unused exactly where its bytes are 0
+
+module _ (jn : List ℕ) (i : ℕ) where
+  zeros-unused : Zeros jn (16 * i) (16 * i + 16) → isUnused (recordIn jn i) ≡ true
+  unfolding isUnused recordIn recordOf
+  zeros-unused h = rw (field (16 * i) (omega arith) (omega arith), field (16 * i + 4) (omega arith) (omega arith), field (16 * i + 8) (omega arith) (omega arith), field (16 * i + 12) (omega arith) (omega arith))
+    where
+      field : (p : ℕ) → 16 * i ≤ p → p + 4 ≤ 16 * i + 16 → eqb (u32At jn p) 0 ≡ true
+      field p l g = eq-eqb (u32At jn p) 0 (leAt-zero 4 jn p (λ a x y. h a (omega arith) (omega arith)))
+
+  unused-zeros : isUnused (recordIn jn i) ≡ true → Zeros jn (16 * i) (16 * i + 16)
+  unfolding isUnused recordIn recordOf
+  unused-zeros e a l g =
+      let n = and-tells (eqb (u32At jn (16 * i)) 0) (eqb (u32At jn (16 * i + 4)) 0 && (eqb (u32At jn (16 * i + 8)) 0 && eqb (u32At jn (16 * i + 12)) 0)) e in
+      let k = and-tells (eqb (u32At jn (16 * i + 4)) 0) (eqb (u32At jn (16 * i + 8)) 0 && eqb (u32At jn (16 * i + 12)) 0) (n .1) in
+      let s = and-tells (eqb (u32At jn (16 * i + 8)) 0) (eqb (u32At jn (16 * i + 12)) 0) (k .1) in
+      ⊎-elim
+      (field (16 * i) (n .0) l)
+      (λ q. ⊎-elim (λ f. field (16 * i + 4) (k .0) q (omega arith)) (λ f. ⊎-elim (λ t. field (16 * i + 8) (s .0) f (omega arith)) (λ t. field (16 * i + 12) (s .1) t (omega arith)) (lt-or-ge a (16 * i + 12))) (lt-or-ge a (16 * i + 8)))
+      (lt-or-ge a (16 * i + 4))
+    where
+      field : (p : ℕ) → eqb (u32At jn p) 0 ≡ true → p ≤ a → a < p + 4 → getD jn a 0 ≡ 0
+      field p f = leAt-zeros 4 jn p (eqb-true (u32At jn p) 0 f) a
+
+-- so the records from k on are unused exactly where the bytes from there on are 0
+pub rest-zeros : (jn : List ℕ) (k : ℕ) {r : Bool} → length jn % 16 ≡ 0 → Tells r (Zeros jn (16 * k) (length jn)) → r ≡ not (any (λ i. not (ltb i k) && not (isUnused (recordIn jn i))) (total jn))
+rest-zeros jn k {r} whole t = go r refl (any bad (total jn)) refl
+  where
+    bad : ℕ → Bool
+    bad i = not (ltb i k) && not (isUnused (recordIn jn i))
+
+    none : Zeros jn (16 * k) (length jn) → (i : ℕ) → i < total jn → bad i ≡ false
+    none z i l =
+        ⊎-elim
+        (λ g. rw (lt-ltb i k g))
+        (λ g. rw (le-ltb i k g, zeros-unused jn i (λ a x y. z a (omega arith) (omega arith))))
+        (lt-or-ge i k)
+
+    zeros : any bad (total jn) ≡ false → Zeros jn (16 * k) (length jn)
+    zeros e a l g =
+        let i : ℕ = a / 16 in
+        unused-zeros jn i (not-false (isUnused (recordIn jn i)) (rw (le-ltb i k (omega arith)) at (any-false bad (total jn) e i (omega arith)))) a (omega arith) (omega arith)
+
+    go : (b : Bool) → r ≡ b → (d : Bool) → any bad (total jn) ≡ d → r ≡ not (any bad (total jn))
+    go true e d f = rw (e, any-none bad (total jn) (none (t .so e)))
+    go false e true f = rw (e, f)
+    go false e false f = absurd (never (sym (t .answers (zeros f)) ∙ e))

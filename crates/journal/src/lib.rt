@@ -5,7 +5,7 @@ use records::Slot;
 ghost use mathlib.Core.Path.{_≡_};
 ghost use mathlib.Core.Bool.{not, _&&_};
 ghost use mathlib.Core.List.{List};
-ghost use Prim.Native.Nat.{ℕ, _+_, _*_, _≤_, _<_};
+ghost use Prim.Native.Nat.{ℕ, _+_, _*_, _%_, _≤_, _<_};
 ghost use lib.Dec.{eqb, ltb};
 ghost use lib.ListN.{length};
 ghost use Rattle.numbers.specs.Below.{any};
@@ -126,18 +126,10 @@ fn judge_records(j: &[u8], m: &[u8], order: &[u32], n: usize, e: u32) -> Judged
 
 // Whether the records from k on are all zero.
 fn rest_unused(j: &[u8], k: usize) -> bool
+    requires { ⌜ (length (now j) % journalRecordSize ≡ 0) × (k ≤ total (now j)) ⌝ }
     ensures { λ r. ⌜ r ≡ not (any (λ (i : ℕ). not (ltb i k) && not (isUnused (recordIn (now (j .entry)) i))) (total (now (j .entry)))) ⌝ }
 {
-    let all = j.len() / JournalRecord::SIZE;
-    let mut i = k;
-    while i < all {
-        let r = record_in(j, i);
-        if !r.is_unused() {
-            return false;
-        }
-        i += 1;
-    }
-    true
+    numbers::all_zero(j, JournalRecord::SIZE * k)
 }
 
 // A look into the journal for an edit number. The map has n index blocks, whose order is lent.

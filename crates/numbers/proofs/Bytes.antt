@@ -6,10 +6,11 @@ use mathlib.Core.Logic.{_⊎_, inl, inr}
 use Prim.Native.Nat.{ℕ, zero, suc, _+_, _-_, _*_, _/_, _%_, _^_, _≤_, _<_, suc-le-suc, zero-le}
 use native.Mathlib.Nat.{add-zero, zero-add, add-suc, suc-add, add-assoc, pow-succ', le-of-suc-le-suc, not-suc-le-zero, mod-lt, div-lt-iff-lt-mul, mul-assoc}
 use native.Mathlib.Numerals.{add-one}
+use native.Mathlib.Decide.{ℕ-discrete}
 use native.Mathlib.Omega.{arith}
 use lib.Seq.{getD-drop, getD-take, getD-append-add, sets, sets-eq, getD-set-other, getD-set-same, drop-set-add, take-set-lt, drop-set-lt, take-set-le}
 use lib.ListN.{length, getD, take, drop, set, length-set, take-append-drop, List·getD-append}
-use Rattle.numbers.specs.Bytes.{Bytes, leAt, bytesOf}
+use Rattle.numbers.specs.Bytes.{Bytes, leAt, bytesOf, Zeros}
 
 -- ---- reading
 
@@ -31,6 +32,21 @@ leAt-cong (suc n) xs ys a b h =
     let e1 : leAt n xs (a + 1) ≡ leAt n ys (b + 1) =
     leAt-cong n xs ys (a + 1) (b + 1) (λ k hk. simp add-assoc (h (1 + k) (omega arith))) in
     cc
+
+-- a number is 0 exactly where its bytes are
+pub leAt-zero : (n : ℕ) (xs : List ℕ) (at : ℕ) → Zeros xs at (at + n) → leAt n xs at ≡ 0
+unfolding leAt
+leAt-zero zero xs at h = refl
+leAt-zero (suc n) xs at h = rw (h at (omega arith) (omega arith), leAt-zero n xs (at + 1) (λ i l g. h i (omega arith) (omega arith)))
+
+pub leAt-zeros : (n : ℕ) (xs : List ℕ) (at : ℕ) → leAt n xs at ≡ 0 → Zeros xs at (at + n)
+unfolding leAt
+leAt-zeros zero xs at e i l g = absurd (omega arith)
+leAt-zeros (suc n) xs at e i l g =
+    elim (ℕ-discrete i at) [
+      | yes q ↦ rw q (omega (arith, e))
+      | no q ↦ leAt-zeros n xs (at + 1) (omega (arith, e)) i (omega arith) (omega arith)
+    ]
 
 -- a part that starts at p
 pub leAt-drop : (n : ℕ) (xs : List ℕ) (p at : ℕ) → leAt n (drop p xs) at ≡ leAt n xs (p + at)

@@ -4,6 +4,7 @@
 --     u16At, u32At      the same for two and for four bytes
 --     bytesOf n v       the n low bytes of v, least first
 --     sameBytes a b     whether two lists are equal, element by element
+--     Zeros xs lo hi    the elements from index lo to below hi are 0
 --     Alike a b lo hi   the elements from index lo to below hi are the same
 --     Line a b at i     the parts of a line from at on that are compared together are the same, as far as i goes in the first 16 bytes
 --     Tells x P         a test answers x exactly where P holds
@@ -36,6 +37,9 @@ sameBytes [] [] = true
 sameBytes [] (y ∷ ys) = false
 sameBytes (x ∷ xs) [] = false
 sameBytes (x ∷ xs) (y ∷ ys) = eqb x y && sameBytes xs ys
+
+abbrev pub Zeros : List ℕ → ℕ → ℕ → Type 0
+Zeros xs lo hi = (i : ℕ) → lo ≤ i → i < hi → getD xs i 0 ≡ 0
 
 abbrev pub Alike : List ℕ → List ℕ → ℕ → ℕ → Type 0
 Alike a b lo hi = (i : ℕ) → lo ≤ i → i < hi → getD a i 0 ≡ getD b i 0

@@ -4,7 +4,7 @@ ghost use Prim.Native.Nat.{_+_, _*_, _≤_, _<_};
 ghost use lib.ListN.{length, replicate};
 ghost use lib.Seq.{sets};
 ghost use lib.Signed.{leZ};
-ghost use Rattle.numbers.specs.Bytes.{u16At, u32At, bytesOf, sameBytes, Alike, Line, Tells};
+ghost use Rattle.numbers.specs.Bytes.{u16At, u32At, bytesOf, sameBytes, Zeros, Alike, Line, Tells};
 ghost use Rattle.numbers.specs.Coordinates.{signed16, signed32, valueOf, unmarked, signFlipped};
 ghost use Rattle.numbers.specs.Ranges.{share};
 
@@ -185,6 +185,20 @@ pub fn clear(d: &mut [u8], n: usize)
         d[i] = 0;
         i += 1;
     }
+}
+
+// Whether the bytes from a place on are all 0. The loop has no early end, so that many bytes are looked at at a time.
+pub fn all_zero(b: &[u8], from: usize) -> bool
+    requires { ⌜ from ≤ length (now b) ⌝ }
+    ensures { λ r. ⌜ Tells r (Zeros (now (b .entry)) from (length (now (b .entry)))) ⌝ }
+{
+    let mut zero = true;
+    let mut i = from;
+    while i < b.len() {
+        zero = zero & (b[i] == 0);
+        i += 1;
+    }
+    zero
 }
 
 // Whether two slices hold the same bytes from a place to another. The loop has no early end, so that many bytes are compared at a time.

@@ -7,7 +7,7 @@ use Rattle.journal.specs.Journals.{looked}
 use Rattle.journal.specs.Passes.{judged}
 use Rattle.journal.specs.declared.Judged.the-variants.{Good}
 use Rattle.journal.proofs.Journals.{well-formed-parts}
-use Rattle.journal.proofs.Passes.{Sized, look-bad, look-rest, look-new, look-held}
+use Rattle.journal.proofs.Passes.{Sized, look-bad, look-count, look-rest, look-new, look-held}
 use borrow.Author.Needs.{needs}
 use Rattle.journal.proofs.look_up.Statement.{statement}
 use Rattle.journal.proofs.look_up.Tie as tie
@@ -36,6 +36,12 @@ sized d = record { nonzero = d .before .before .if1 .left; short = d .before .if
 -- the records in use are good
 judged-as : (d : tie.After-records) → let a = d .before .before .before .before .before .before .before .before .before .args in judged (now (a .j)) (now (a .m)) (a .n) (a .e) ≡ Good (d .records .given .0 .0) (d .records .given .0 .1 .0)
 judged-as d = sym (d .before .before .judge-records .ensures) ∙ d .records .given .1
+
+rest-unused-requires : tie.Need-rest-unused-requires
+rest-unused-requires c κs =
+    let d = c .before in
+    let z = sized (d .before .before .before) in
+    (z .whole, look-count z (judged-as d))
 
 returns-4 : tie.Need-returns-4
 returns-4 c =
@@ -69,7 +75,7 @@ look-up-spec =
     (λ c κs. search needs)
     (λ c. search needs)
     (λ c. search needs)
-    (λ c κs. search needs)
+    rest-unused-requires
     returns-4
     returns-5
     returns-6
