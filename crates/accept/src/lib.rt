@@ -25,7 +25,7 @@ ghost use Prim.Native.Nat.{ℕ, _+_, _*_, _≤_, _<_};
 ghost use lib.ListN.{length, drop};
 ghost use Rattle.numbers.specs.Bytes.{u32At};
 ghost use Rattle.numbers.specs.Below.{first};
-ghost use Rattle.records.specs.Sizes.{headerSize, indexBlockSize, indexPage, slotSize, symbolBlockSize, entrySize, mapLimit};
+ghost use Rattle.records.specs.Sizes.{headerSize, indexBlockSize, indexPage, slotSize, symbolBlockSize, symbolPage, entrySize, mapLimit};
 ghost use Rattle.records.specs.Headers.{headerOf, indexHead};
 ghost use Rattle.records.specs.Slots.{lenGood, bytesIn, bytesInRange};
 ghost use Rattle.chain.specs.Chains.{walked, taken};
@@ -397,13 +397,12 @@ fn index_kind(h: Header) -> Kind
     }
 }
 
-// 6: the symbol blocks and their entries, with a table of the blocks.
-fn judge_symbol_blocks(m: &[u8], used: usize, index: &[u32], n: usize) -> Judged
-    requires { ⌜ (headerSize ≤ used) × (used ≤ mapLimit) × (used ≤ length (now m)) × (used + indexPage ≤ length (now index) * indexPage) × Filled indexBlockSize indexPage used (now index) × EndsTable indexBlockSize indexHead indexPage (now m) n (now index) ⌝ }
+// 6: the symbol blocks and their entries. A table for the blocks is lent, empty before.
+fn judge_symbol_blocks(m: &[u8], used: usize, index: &[u32], n: usize, t: &mut [u32]) -> Judged
+    requires { ⌜ (headerSize ≤ used) × (used ≤ mapLimit) × (used ≤ length (now m)) × (used + indexPage ≤ length (now index) * indexPage) × Filled indexBlockSize indexPage used (now index) × EndsTable indexBlockSize indexHead indexPage (now m) n (now index) × (used + symbolPage ≤ length (now t) * symbolPage) × Empty (now t) ⌝ }
     ensures { λ r. ⌜ r ≡ symbolsJudged (now (m .entry)) used n ⌝ }
 {
-    let mut t = [0u32; SymbolBlock::TABLE];
-    let w = walk_chain(m, used, symbol_kind(), index, &mut t);
+    let w = walk_chain(m, used, symbol_kind(), index, t);
     match w {
         Walk::Blocks(k) => judge_entries(m, used, index, n, k),
         Walk::Fault { place, taken } => {
@@ -419,7 +418,7 @@ fn judge_symbol_blocks(m: &[u8], used: usize, index: &[u32], n: usize) -> Judged
     }
 }
 
-// 6: a map without symbol blocks needs no table of them.
+// 6, with a table as large as the map needs: none where there are no symbol blocks.
 fn judge_symbols(m: &[u8], used: usize, index: &[u32], n: usize) -> Judged
     requires { ⌜ (headerSize ≤ used) × (used ≤ mapLimit) × (used ≤ length (now m)) × (used + indexPage ≤ length (now index) * indexPage) × Filled indexBlockSize indexPage used (now index) × EndsTable indexBlockSize indexHead indexPage (now m) n (now index) ⌝ }
     ensures { λ r. ⌜ r ≡ symbolsJudged (now (m .entry)) used n ⌝ }
@@ -427,7 +426,12 @@ fn judge_symbols(m: &[u8], used: usize, index: &[u32], n: usize) -> Judged
     if u32_at(m, Header::SYMBOLS) == 0 {
         return Judged::Good;
     }
-    judge_symbol_blocks(m, used, index, n)
+    if used <= Header::SMALL {
+        let mut t = [0u32; SymbolBlock::SMALL_TABLE];
+        return judge_symbol_blocks(m, used, index, n, &mut t);
+    }
+    let mut t = [0u32; SymbolBlock::TABLE];
+    judge_symbol_blocks(m, used, index, n, &mut t)
 }
 
 // 6, then 7, of a map whose index blocks are good.
@@ -473,7 +477,7 @@ fn judge_index(m: &[u8], used: usize, index: &mut [u32]) -> Examined
 
 // The check, with a lent table, empty before, that has the index blocks, filled, afterwards where the map is accepted.
 pub fn examine(m: &[u8], used: usize, index: &mut [u32]) -> Examined
-    requires { ⌜ (mapLimit + indexPage ≤ length (now index) * indexPage) × Empty (now index) ⌝ }
+    requires { ⌜ (used ≤ mapLimit → used + indexPage ≤ length (now index) * indexPage) × Empty (now index) ⌝ }
     ensures { λ r. ⌜ (r ≡ withFree (now (m .entry)) (verdict (now (m .entry)) used)) × ((n free : ℕ) → r ≡ examined.Accepted n free → Filled indexBlockSize indexPage used (now (index .exit)) × EndsTable indexBlockSize indexHead indexPage (now (m .entry)) n (now (index .exit))) ⌝ }
 {
     let j = judge_header(m, used);
@@ -483,7 +487,19 @@ pub fn examine(m: &[u8], used: usize, index: &mut [u32]) -> Examined
     }
 }
 
-// 5, 6 and 7 of a map whose header is good. Where it has neither index blocks nor symbol blocks no table is needed.
+// 5, 6 and 7 of a map whose header is good, with a lent table, empty before.
+fn judge_with(m: &[u8], used: usize, index: &mut [u32]) -> Verdict
+    requires { ⌜ (headerSize ≤ used) × (used ≤ mapLimit) × (used ≤ length (now m)) × (used + indexPage ≤ length (now index) * indexPage) × Empty (now index) ⌝ }
+    ensures { λ r. ⌜ r ≡ afterIndex (now (m .entry)) used (walked (indexRule (now (m .entry))) (now (m .entry)) used) ⌝ }
+{
+    let e = judge_index(m, used, index);
+    match e {
+        Examined::Accepted { blocks, free: _ } => Verdict::Accepted { blocks },
+        Examined::Refused { number, place } => Verdict::Refused { number, place },
+    }
+}
+
+// 5, 6 and 7 of a map whose header is good, with a table as large as the map needs: none where it has neither index blocks nor symbol blocks.
 fn judge_chains(m: &[u8], used: usize) -> Verdict
     requires { ⌜ (headerSize ≤ used) × (used ≤ mapLimit) × (used ≤ length (now m)) ⌝ }
     ensures { λ r. ⌜ r ≡ afterIndex (now (m .entry)) used (walked (indexRule (now (m .entry))) (now (m .entry)) used) ⌝ }
@@ -493,12 +509,12 @@ fn judge_chains(m: &[u8], used: usize) -> Verdict
             return Verdict::Accepted { blocks: 0 };
         }
     }
-    let mut index = [0u32; IndexBlock::TABLE];
-    let e = judge_index(m, used, &mut index);
-    match e {
-        Examined::Accepted { blocks, free: _ } => Verdict::Accepted { blocks },
-        Examined::Refused { number, place } => Verdict::Refused { number, place },
+    if used <= Header::SMALL {
+        let mut index = [0u32; IndexBlock::SMALL_TABLE];
+        return judge_with(m, used, &mut index);
     }
+    let mut index = [0u32; IndexBlock::TABLE];
+    judge_with(m, used, &mut index)
 }
 
 // The check of the first `used` bytes of a buffer. Any slice, any `used`.

@@ -42,7 +42,7 @@ use Rattle.edit.specs.declared.Start.the-variants as starts
 use Rattle.edit.specs.declared.NewSym.the-variants.{Write, None}
 use Rattle.edit.specs.Slots.{slotIn, hasState, resym, withSym, objectSym, isAccepted, canReinstate, allowedFor, symFor}
 use Rattle.edit.specs.NewSyms.{symToReinstate, newSymFor}
-use Rattle.edit.specs.Edits.{Outcome, saying, afterLook, afterCheck, startOf, Known, repeatChange, freshChange, changed}
+use Rattle.edit.specs.Edits.{Outcome, saying, afterLook, afterCheck, startOf, Roomy, Known, repeatChange, freshChange, changed}
 use Rattle.edit.proofs.Syms.{len-some, has-tells, accepted-good}
 
 -- ---- the tables of an accepted map
@@ -51,16 +51,20 @@ module _ {m : List ℕ} {used n : ℕ} (h : Holds m used n) where
   pub few-blocks : n ≤ 2728
   few-blocks = omega (arith, few (pass-of h) (omega arith), h .limit)
 
+  -- a table with room for them has an entry for each
+  pub blocks-fit : {index o : List ℕ} → Roomy used index o → n ≤ length o
+  blocks-fit r = omega (arith, few (pass-of h) (omega arith), r .blocks)
+
   -- what the blocks' order asks
-  pub order-ready : (o : List ℕ) → 2728 ≤ length o → (16 ≤ length m) × ((k : ℕ) → k < n → block 12 m k + 4 ≤ length m) × (n ≤ length o)
+  pub order-ready : (o : List ℕ) → n ≤ length o → (16 ≤ length m) × ((k : ℕ) → k < n → block 12 m k + 4 ≤ length m) × (n ≤ length o)
   order-ready o l =
-      (omega (arith, h .low, h .room), λ k g. omega (arith, pass-of h .lies k g .high, h .room), omega (arith, few-blocks))
+      (omega (arith, h .low, h .room), λ k g. omega (arith, pass-of h .lies k g .high, h .room), l)
 
   -- what a look into the journal asks
-  pub reach : (o : List ℕ) → 2728 ≤ length o → Ordered indexHead m n o → Reach m o n
+  pub reach : (o : List ℕ) → n ≤ length o → Ordered indexHead m n o → Reach m o n
   reach o l e =
       record {
-        known = omega (arith, few-blocks);
+        known = l;
         few = omega (arith, few-blocks);
         ordered = e;
         inside = λ s g. omega (arith, slot-lies h s g .high, h .room);

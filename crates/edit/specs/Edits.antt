@@ -11,7 +11,7 @@
 --                            chain's last link, or the header's, points
 --     repeatAdd              an add under a number that is held: an add whose slot's object equals the offered bytes is "done before", anything else 14
 --     freshAdd, added        the add: 10, then 11, then 15, then done
-use Prim.Native.Nat.{ℕ, _+_, _*_}
+use Prim.Native.Nat.{ℕ, _+_, _*_, _≤_, _<_}
 use mathlib.Core.Bool.{Bool, cond, _&&_}
 use mathlib.Core.List.{List}
 use lib.Dec.{eqb, leb, ltb}
@@ -19,7 +19,7 @@ use lib.ListN.{length}
 use lib.Seq.{sets}
 use Rattle.numbers.specs.Bytes.{bytesOf}
 use Rattle.records.specs.declared.Slot.{Slot}
-use Rattle.records.specs.Sizes.{indexBlockSize, indexPage, mapLimit}
+use Rattle.records.specs.Sizes.{headerSize, indexBlockSize, indexPage, mapLimit}
 use Rattle.records.specs.Headers.{indexHead}
 use Rattle.records.specs.Slots.{slotBytes}
 use Rattle.records.specs.Journals.{recordFor}
@@ -94,6 +94,11 @@ after m j repeat fresh (starts.New n k f) = fresh n
 
 abbrev pub begun : List ℕ → ℕ → List ℕ → ℕ → (ℕ → ℕ → ℕ → Outcome) → (ℕ → Outcome) → Outcome
 begun m used j e repeat fresh = after m j repeat fresh (startOf m used j e)
+
+-- the tables that an edit is lent have room for a map of so many bytes
+pub record Roomy (used : ℕ) (index order : List ℕ) : Type 0 where
+  pub pages : used + indexPage ≤ length index * indexPage
+  pub blocks : used < headerSize + indexBlockSize * (length order + 1)
 
 -- what the tables that an edit fills tell of a map with n index blocks
 pub record Known (m : List ℕ) (used n : ℕ) (index order : List ℕ) : Type 0 where

@@ -48,7 +48,7 @@ ghost use Rattle.journal.specs.Journals.{inUse};
 ghost use Rattle.edit.specs.declared.Answer.the-variants.{Refused};
 ghost use Rattle.edit.specs.Slots.{freeSlot};
 ghost use Rattle.edit.specs.Objects.{pairLimit, offeredGood, slotFor, blockFor, isObject};
-ghost use Rattle.edit.specs.Edits.{numberOf, placeOf, beforeOf, slotNo, lengthOf, startOf, Known, repeatChange, freshChange, changed, removed, reinstated, newLength, addedMap, repeatAdd, freshAdd, added};
+ghost use Rattle.edit.specs.Edits.{numberOf, placeOf, beforeOf, slotNo, lengthOf, startOf, Roomy, Known, repeatChange, freshChange, changed, removed, reinstated, newLength, addedMap, repeatAdd, freshAdd, added};
 ghost use Rattle.edit.specs.NewSyms.{symToReinstate, newSymFor};
 
 // What an edit answers: done, or done before, with the slot and the map's length; or a refusal.
@@ -150,7 +150,7 @@ pub enum Start {
 
 // The check and the look into the journal, with which every edit starts. The lent tables have the index blocks afterwards, where the map is accepted.
 fn begin(m: &[u8], used: usize, j: &[u8], e: u32, index: &mut [u32], order: &mut [u32]) -> Start
-    requires { ⌜ (mapLimit + indexPage ≤ length (now index) * indexPage) × Empty (now index) × (2728 ≤ length (now order)) ⌝ }
+    requires { ⌜ (used ≤ mapLimit → Roomy used (now index) (now order)) × Empty (now index) ⌝ }
     ensures { λ r. ⌜ (r ≡ startOf (now (m .entry)) used (now (j .entry)) e) × ((n : ℕ) → verdict (now (m .entry)) used ≡ Accepted n → Known (now (m .entry)) used n (now (index .exit)) (now (order .exit))) ⌝ }
 {
     let v = examine(m, used, index);
@@ -223,7 +223,7 @@ fn sym_for(
     kind: u32,
     at: u32,
 ) -> NewSym
-    requires { ⌜ (verdict (now m) used ≡ Accepted n) × Known (now m) used n (now index) (now order) × (mapLimit + indexPage ≤ length (now index) * indexPage) × (n ≤ length (now order)) ⌝ }
+    requires { ⌜ (verdict (now m) used ≡ Accepted n) × Known (now m) used n (now index) (now order) × (used + indexPage ≤ length (now index) * indexPage) × (n ≤ length (now order)) ⌝ }
     ensures { λ r. ⌜ r ≡ newSymFor kind (now (m .entry)) used n at ⌝ }
 {
     let s = at as usize;
@@ -305,15 +305,23 @@ fn change_slot(
     }
 }
 
-// An edit of kind 2 or 3.
-fn change(map: &mut [u8], used: usize, journal: &mut [u8], edit: u32, kind: u32, at: u32) -> Answer
+// An edit of kind 2 or 3, with lent tables, the index blocks' empty before.
+fn change_with(
+    map: &mut [u8],
+    used: usize,
+    journal: &mut [u8],
+    edit: u32,
+    kind: u32,
+    at: u32,
+    index: &mut [u32],
+    order: &mut [u32],
+) -> Answer
+    requires { ⌜ (used ≤ mapLimit → Roomy used (now index) (now order)) × Empty (now index) ⌝ }
     ensures answers { λ r. ⌜ r ≡ changed (now (map .entry)) used (now (journal .entry)) edit kind at .answer ⌝ }
     ensures maps { λ r. ⌜ now (map .exit) ≡ changed (now (map .entry)) used (now (journal .entry)) edit kind at .map ⌝ }
     ensures journals { λ r. ⌜ now (journal .exit) ≡ changed (now (map .entry)) used (now (journal .entry)) edit kind at .journal ⌝ }
 {
-    let mut index = [0u32; IndexBlock::TABLE];
-    let mut order = [0u32; IndexBlock::MOST];
-    let start = begin(map, used, journal, edit, &mut index, &mut order);
+    let start = begin(map, used, journal, edit, index, order);
     match start {
         Start::Refused { number, place } => Answer::Refused { number, place },
         Start::Held {
@@ -326,16 +334,32 @@ fn change(map: &mut [u8], used: usize, journal: &mut [u8], edit: u32, kind: u32,
             records,
             free: _,
         } => {
-            let sym = sym_for(map, used, &index, &order, blocks, kind, at);
+            let sym = sym_for(map, used, index, order, blocks, kind, at);
             match sym {
                 NewSym::None => refused(12),
                 NewSym::Write(y) => {
-                    let place = place_of(&order, at as usize);
+                    let place = place_of(order, at as usize);
                     change_slot(map, used, journal, edit, kind, at, place, records, y)
                 }
             }
         }
     }
+}
+
+// An edit of kind 2 or 3, with tables as large as the map needs.
+fn change(map: &mut [u8], used: usize, journal: &mut [u8], edit: u32, kind: u32, at: u32) -> Answer
+    ensures answers { λ r. ⌜ r ≡ changed (now (map .entry)) used (now (journal .entry)) edit kind at .answer ⌝ }
+    ensures maps { λ r. ⌜ now (map .exit) ≡ changed (now (map .entry)) used (now (journal .entry)) edit kind at .map ⌝ }
+    ensures journals { λ r. ⌜ now (journal .exit) ≡ changed (now (map .entry)) used (now (journal .entry)) edit kind at .journal ⌝ }
+{
+    if used <= Header::SMALL {
+        let mut index = [0u32; IndexBlock::SMALL_TABLE];
+        let mut order = [0u32; IndexBlock::SMALL_MOST];
+        return change_with(map, used, journal, edit, kind, at, &mut index, &mut order);
+    }
+    let mut index = [0u32; IndexBlock::TABLE];
+    let mut order = [0u32; IndexBlock::MOST];
+    change_with(map, used, journal, edit, kind, at, &mut index, &mut order)
 }
 
 // Remove: a live slot's Sym becomes 0. Any buffer, any `used`, any journal, any edit number, any slot.
@@ -564,23 +588,46 @@ fn add_new(
     }
 }
 
+// An add, with lent tables, the index blocks' empty before.
+fn add_with(
+    map: &mut [u8],
+    used: usize,
+    journal: &mut [u8],
+    edit: u32,
+    o: &[u8],
+    index: &mut [u32],
+    order: &mut [u32],
+) -> Answer
+    requires { ⌜ (used ≤ mapLimit → Roomy used (now index) (now order)) × Empty (now index) ⌝ }
+    ensures answers { λ r. ⌜ r ≡ added (now (map .entry)) used (now (journal .entry)) edit (now (o .entry)) .answer ⌝ }
+    ensures maps { λ r. ⌜ now (map .exit) ≡ added (now (map .entry)) used (now (journal .entry)) edit (now (o .entry)) .map ⌝ }
+    ensures journals { λ r. ⌜ now (journal .exit) ≡ added (now (map .entry)) used (now (journal .entry)) edit (now (o .entry)) .journal ⌝ }
+{
+    let start = begin(map, used, journal, edit, index, order);
+    match start {
+        Start::Refused { number, place } => Answer::Refused { number, place },
+        Start::Held { blocks, kind, slot } => repeat_add(map, used, order, blocks, o, kind, slot),
+        Start::New {
+            blocks,
+            records,
+            free,
+        } => add_new(map, used, journal, edit, o, order, blocks, records, free),
+    }
+}
+
 // Add: the object is stored at the old end and takes the first free slot, or one in a new block. Any buffer, any `used`, any journal, any edit number, any
-// bytes as object.
+// bytes as object. The tables are as large as the map needs.
 pub fn add(map: &mut [u8], used: usize, journal: &mut [u8], edit: u32, o: &[u8]) -> Answer
     ensures answers { λ r. ⌜ r ≡ added (now (map .entry)) used (now (journal .entry)) edit (now (o .entry)) .answer ⌝ }
     ensures maps { λ r. ⌜ now (map .exit) ≡ added (now (map .entry)) used (now (journal .entry)) edit (now (o .entry)) .map ⌝ }
     ensures journals { λ r. ⌜ now (journal .exit) ≡ added (now (map .entry)) used (now (journal .entry)) edit (now (o .entry)) .journal ⌝ }
 {
+    if used <= Header::SMALL {
+        let mut index = [0u32; IndexBlock::SMALL_TABLE];
+        let mut order = [0u32; IndexBlock::SMALL_MOST];
+        return add_with(map, used, journal, edit, o, &mut index, &mut order);
+    }
     let mut index = [0u32; IndexBlock::TABLE];
     let mut order = [0u32; IndexBlock::MOST];
-    let start = begin(map, used, journal, edit, &mut index, &mut order);
-    match start {
-        Start::Refused { number, place } => Answer::Refused { number, place },
-        Start::Held { blocks, kind, slot } => repeat_add(map, used, &order, blocks, o, kind, slot),
-        Start::New {
-            blocks,
-            records,
-            free,
-        } => add_new(map, used, journal, edit, o, &order, blocks, records, free),
-    }
+    add_with(map, used, journal, edit, o, &mut index, &mut order)
 }

@@ -58,6 +58,8 @@ impl Header {
     pub const SIZE: usize = 48;
     // A map is at most so long.
     pub const LIMIT: usize = 16777216;
+    // A map of at most so many bytes is small, and so are its tables.
+    pub const SMALL: usize = 1048576;
     // Where the version stands.
     pub const VERSION: usize = 4;
 
@@ -107,12 +109,16 @@ pub struct IndexBlock {
 
 impl IndexBlock {
     pub const SIZE: usize = 6148;
-    // The largest map has so many.
+    // The largest map has so many, and the largest small one.
     pub const MOST: usize = 2728;
-    // A table of them goes by pages of so many bytes, and has so many entries.
+
+    pub const SMALL_MOST: usize = 170;
+    // A table of them goes by pages of so many bytes, and has so many entries, or so many for a small map.
     pub const PAGE: usize = 4096;
 
     pub const TABLE: usize = 4097;
+
+    pub const SMALL_TABLE: usize = 257;
 
     pub fn new(at: usize) -> IndexBlock
         ensures { λ r. ⌜ r .at ≡ at ⌝ }
@@ -136,10 +142,12 @@ pub struct SymbolBlock {
 
 impl SymbolBlock {
     pub const SIZE: usize = 1028;
-    // A table of them goes by pages of so many bytes, and has so many entries.
+    // A table of them goes by pages of so many bytes, and has so many entries, or so many for a small map.
     pub const PAGE: usize = 1024;
 
     pub const TABLE: usize = 16385;
+
+    pub const SMALL_TABLE: usize = 1025;
 
     pub const ENTRY: usize = 4;
 

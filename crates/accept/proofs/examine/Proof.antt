@@ -14,7 +14,7 @@ judge-index-requires c κs =
     let k = c .before .before .before in
     let s = k .before .before .before in
     let h = header-tells (now (s .args .m)) (s .args .used) (sym (k .judge-header .ensures) ∙ c .before .enum-told .given .1) in
-    (h .0, h .1, h .2, omega (arith, s .pre .0), s .pre .1)
+    (h .0, h .1, h .2, omega (arith, s .pre .0 (h .1)), s .pre .1)
 
 returns : tie.Need-returns
 unfolding verdict

@@ -12,7 +12,7 @@ use Rattle.accept.proofs.Slots.{plain, verdict-of, accepted-free}
 use Rattle.accept.proofs.Accepting.{Holds, accepted-tells}
 use Rattle.edit.specs.declared.Start.the-variants as starts
 use Rattle.edit.specs.Edits.{Known}
-use Rattle.edit.proofs.Changing.{order-ready, reach, known-by, start-refused, start-look}
+use Rattle.edit.proofs.Changing.{blocks-fit, order-ready, reach, known-by, start-refused, start-look}
 use borrow.Author.Needs.{needs}
 use Rattle.edit.proofs.begin.Statement.{statement}
 use Rattle.edit.proofs.begin.Tie as tie
@@ -31,18 +31,23 @@ holds c =
     let a = c .before .before .before .before .before .before .before .before .before .before .args in
     accepted-tells (now (a .m)) (a .used) (c .v2 .given .0 .0) (accepted c)
 
+examine-requires : tie.Need-examine-requires
+examine-requires c κs =
+    let s = c .before .before .before .before .before in
+    (λ l. s .pre .0 l .pages, s .pre .1)
+
 order-blocks-requires : tie.Need-order-blocks-requires
 order-blocks-requires c κs =
     let v = c .before .before in
     let s = v .before .before .before .before .before .before .before .before .before .before in
-    order-ready (holds v) (now (s .args .order)) (s .pre .2)
+    order-ready (holds v) (now (s .args .order)) (blocks-fit (holds v) (s .pre .0 (holds v .limit)))
 
 look-up-requires : tie.Need-look-up-requires
 look-up-requires c κs =
     let o = c .before .before .before in
     let v = o .before .before .before in
     let s = v .before .before .before .before .before .before .before .before .before .before in
-    reach (holds v) (o .order-blocks .last .1 .1 .1 .0) (omega (arith, s .pre .2, o .order-blocks .kept .1 .1 .1 .0)) (o .order-blocks .ensures)
+    reach (holds v) (o .order-blocks .last .1 .1 .1 .0) (omega (arith, blocks-fit (holds v) (s .pre .0 (holds v .limit)), o .order-blocks .kept .1 .1 .1 .0)) (o .order-blocks .ensures)
 
 -- the tables have the blocks
 known : (c : tie.After-look-up) → let o = c .before .before .before .before in let x = o .before .before .before .before .before .before .before in let a = x .before .before .before .before .before .before .args in (n : ℕ) → verdict (now (a .m)) (a .used) ≡ Accepted n → Known (now (a .m)) (a .used) n (x .examine .last .1 .1 .0) (o .order-blocks .last .1 .1 .1 .0)
@@ -85,7 +90,7 @@ pub begin-spec : {M : Type 1} → statement M
 begin-spec =
     tie.close
     (tie.spec
-    (λ c κs. search needs)
+    examine-requires
     (λ c. search needs)
     (λ c. search needs)
     order-blocks-requires
