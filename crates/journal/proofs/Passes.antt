@@ -1,21 +1,23 @@
 -- The laws of one pass over the records of a journal jn: what the chain of a bucket tells of a number, what is known when i records have been passed, and what
 -- the pass's answer makes of a look. m is a map of n index blocks. Assumes nothing.
-use Prim.Native.Nat.{ℕ, zero, suc, _+_, _/_, _%_, _≤_, _<_}
+use Prim.Native.Nat.{ℕ, zero, suc, _+_, _*_, _%_, _≤_, _<_}
 use mathlib.Core.Bool.{Bool, true, false, not, cond, _&&_}
 use mathlib.Core.Path.{_≡_, refl, sym, ap, _∙_}
 use mathlib.Core.Logic.{_⊎_, inl, inr, ⊎-elim}
 use mathlib.Core.List.{List}
 use native.Mathlib.Decide.{ℕ-discrete}
+use native.Mathlib.Nat.{div-lt-iff-lt-mul, mod-lt, mul-comm, mul-lt-mul-of-pos-right}
 use native.Mathlib.Numerals.{add-one}
 use native.Mathlib.Omega.{arith}
 use lib.Dec.{eqb, ltb}
-use lib.ListN.{length, getD, set, take, replicate, length-set, length-replicate, getD-replicate}
+use lib.ListN.{length, getD, set, take, length-set}
 use lib.Seq.{getD-set-same, getD-set-other, getD-take, length-take-le}
 use borrow.Author.Count.{below-none, below-more}
 use borrow.Author.Tests.{eq-eqb, ne-eqb, le-leb, eqb-true, eqb-false}
 use Rattle.numbers.specs.Below.{any}
 use Rattle.numbers.proofs.Below.{below-cases, any-at, any-none, first-is}
 use Rattle.numbers.proofs.Coordinates.{lt-or-ge}
+use Rattle.chain.specs.Tables.{Empty}
 use Rattle.records.specs.declared.JournalRecord.{JournalRecord}
 use Rattle.records.specs.Sizes.{journalRecordSize, journalLimit}
 use Rattle.records.specs.Journals.{recordFor, shapeGood, isUnused}
@@ -31,18 +33,18 @@ use Rattle.journal.proofs.Journals.{good-tells, well-formed-parts, held
 -- ---- the chain of a bucket
 
 -- what holds of the last of a bucket among the first i records
-pub record Last (jn : List ℕ) (b i r : ℕ) : Type 0 where
+pub record Last (b : ℕ) (jn : List ℕ) (a i r : ℕ) : Type 0 where
   pub within : r ≤ i
-  pub here : (k : ℕ) → r ≡ k + 1 → bucketOf (recordIn jn k .number) ≡ b
-  pub after : (k : ℕ) → r ≤ k → k < i → bucketOf (recordIn jn k .number) ≡ b → ⊥
+  pub here : (k : ℕ) → r ≡ k + 1 → bucketOf b (recordIn jn k .number) ≡ a
+  pub after : (k : ℕ) → r ≤ k → k < i → bucketOf b (recordIn jn k .number) ≡ a → ⊥
 
-pub last-law : (jn : List ℕ) (b i : ℕ) → Last jn b i (lastIn jn b i)
+pub last-law : (b : ℕ) (jn : List ℕ) (a i : ℕ) → Last b jn a i (lastIn b jn a i)
 unfolding lastIn
-last-law jn b zero =
+last-law b jn a zero =
     record { within = omega arith; here = λ k q. let no-way : ⊥ = omega arith in absurd no-way; after = λ k g l. let no-way : ⊥ = omega arith in absurd no-way }
-last-law jn b (suc i) = go (last-law jn b i) (eqb (bucketOf (recordIn jn i .number)) b) refl
+last-law b jn a (suc i) = go (last-law b jn a i) (eqb (bucketOf b (recordIn jn i .number)) a) refl
   where
-    go : Last jn b i (lastIn jn b i) → (t : Bool) → eqb (bucketOf (recordIn jn i .number)) b ≡ t → Last jn b (suc i) (lastIn jn b (suc i))
+    go : Last b jn a i (lastIn b jn a i) → (t : Bool) → eqb (bucketOf b (recordIn jn i .number)) a ≡ t → Last b jn a (suc i) (lastIn b jn a (suc i))
     go s true f =
         rw f
         (record {
@@ -59,38 +61,38 @@ last-law jn b (suc i) = go (last-law jn b i) (eqb (bucketOf (recordIn jn i .numb
         })
 
 -- a chain goes down
-pub chain-falls : (jn l : List ℕ) → Chained jn l → (k : ℕ) → k < length l → getD l k 0 ≤ k
-chain-falls jn l c k h = rw (c .entry k h) (last-law jn (bucketOf (recordIn jn k .number)) k .within)
+pub chain-falls : (b : ℕ) (jn l : List ℕ) → Chained b jn l → (k : ℕ) → k < length l → getD l k 0 ≤ k
+chain-falls b jn l c k h = rw (c .entry k h) (last-law b jn (bucketOf b (recordIn jn k .number)) k .within)
 
 -- the walk along the chain of number e stands at `at`: no record from `top` on has the number, and `at` is the last of its bucket before
-pub record Walking (jn l : List ℕ) (e at : ℕ) : Type 0 where
+pub record Walking (b : ℕ) (jn l : List ℕ) (e at : ℕ) : Type 0 where
   pub top : ℕ
   pub within : top ≤ length l
-  pub stands : at ≡ lastIn jn (bucketOf e) top
+  pub stands : at ≡ lastIn b jn (bucketOf b e) top
   pub none : (k : ℕ) → top ≤ k → k < length l → recordIn jn k .number ≡ e → ⊥
 
-pub walk-first : (jn l : List ℕ) (e at : ℕ) → at ≡ lastIn jn (bucketOf e) (length l) → Walking jn l e at
-walk-first jn l e at q =
+pub walk-first : (b : ℕ) (jn l : List ℕ) (e at : ℕ) → at ≡ lastIn b jn (bucketOf b e) (length l) → Walking b jn l e at
+walk-first b jn l e at q =
     record { top = length l; within = omega arith; stands = q; none = λ k g h. let no-way : ⊥ = omega arith in absurd no-way }
 
-module _ {jn l : List ℕ} {e at : ℕ} (w : Walking jn l e at) where
-  last : Last jn (bucketOf e) (w .top) at
-  last = rw (w .stands) (last-law jn (bucketOf e) (w .top))
+module _ {b : ℕ} {jn l : List ℕ} {e at : ℕ} (w : Walking b jn l e at) where
+  last : Last b jn (bucketOf b e) (w .top) at
+  last = rw (w .stands) (last-law b jn (bucketOf b e) (w .top))
 
   pub walk-within : at ≤ length l
   walk-within = omega (arith, last .within, w .within)
 
   -- no record from `at` on has the number
   past : (k : ℕ) → at ≤ k → k < length l → recordIn jn k .number ≡ e → ⊥
-  past k g h p = ⊎-elim (λ u. last .after k g u (ap bucketOf p)) (λ u. w .none k u h p) (lt-or-ge k (w .top))
+  past k g h p = ⊎-elim (λ u. last .after k g u (ap (bucketOf b) p)) (λ u. w .none k u h p) (lt-or-ge k (w .top))
 
   -- the record looked at has another number: on to the one before it in its chain
-  pub walk-on : (k : ℕ) → at ≡ k + 1 → Chained jn l → (recordIn jn k .number ≡ e → ⊥) → Walking jn l e (getD l k 0)
+  pub walk-on : (k : ℕ) → at ≡ k + 1 → Chained b jn l → (recordIn jn k .number ≡ e → ⊥) → Walking b jn l e (getD l k 0)
   walk-on k q c new =
       record {
         top = k;
         within = omega (arith, walk-within);
-        stands = c .entry k (omega (arith, walk-within)) ∙ ap (λ b. lastIn jn b k) (last .here k q);
+        stands = c .entry k (omega (arith, walk-within)) ∙ ap (λ a. lastIn b jn a k) (last .here k q);
         none = λ i g h p.
             elim (ℕ-discrete i k) [
               | yes s ↦ new (rw s at p)
@@ -104,40 +106,39 @@ module _ {jn l : List ℕ} {e at : ℕ} (w : Walking jn l e at) where
 
 -- ---- the pass over the records
 
-pub bucket-below : (e : ℕ) → bucketOf e < 8192
-unfolding bucketOf
-bucket-below e = omega arith
+-- a number of 32 bits, spread over b buckets
+pub spread-below : (b e : ℕ) → 0 < b → e % 4294967296 * b < b * 4294967296
+spread-below b e z = rw (mul-comm b 4294967296) (mul-lt-mul-of-pos-right (mod-lt e (omega arith)) z)
 
-last-more : (jn : List ℕ) (b i : ℕ) → lastIn jn b (i + 1) ≡ cond (eqb (bucketOf (recordIn jn i .number)) b) (i + 1) (lastIn jn b i)
+pub bucket-below : (b e : ℕ) → 0 < b → bucketOf b e < b
+unfolding bucketOf
+bucket-below b e z = div-lt-iff-lt-mul {k = 4294967296} {x = e * 2654435769 % 4294967296 * b} {y = b} (omega arith) .1 (spread-below b (e * 2654435769) z)
+
+last-more : (b : ℕ) (jn : List ℕ) (a i : ℕ) → lastIn b jn a (i + 1) ≡ cond (eqb (bucketOf b (recordIn jn i .number)) a) (i + 1) (lastIn b jn a i)
 unfolding lastIn
-last-more jn b i = rw add-one
+last-more b jn a i = rw add-one
 
 held-more : (jn : List ℕ) (e i : ℕ) → heldIn jn e (i + 1) ≡ cond (eqb (recordIn jn i .number) e) (recordIn jn i) (heldIn jn e i)
 unfolding heldIn
 held-more jn e i = rw add-one
 
--- the records below i are good and chained, and the one that holds number e is kept
-pub record Passed (jn m : List ℕ) (n e : ℕ) (heads earlier : List ℕ) (held : JournalRecord) (i : ℕ) : Type 0 where
-  pub buckets : length heads ≡ 8192
-  pub places : length earlier ≡ journalLimit / journalRecordSize
-  pub head : (b : ℕ) → b < 8192 → getD heads b 0 ≡ lastIn jn b i
-  pub entry : (k : ℕ) → k < i → getD earlier k 0 ≡ lastIn jn (bucketOf (recordIn jn k .number)) k
+-- the records below i are good and chained in b buckets, and the one that holds number e is kept
+pub record Passed (b : ℕ) (jn m : List ℕ) (n e : ℕ) (heads earlier : List ℕ) (held : JournalRecord) (i : ℕ) : Type 0 where
+  pub some : 0 < b
+  pub buckets : length heads ≡ b
+  pub places : total jn ≤ length earlier
+  pub head : (a : ℕ) → a < b → getD heads a 0 ≡ lastIn b jn a i
+  pub entry : (k : ℕ) → k < i → getD earlier k 0 ≡ lastIn b jn (bucketOf b (recordIn jn k .number)) k
   pub good : (k : ℕ) → k < i → recordGood jn m n k ≡ true
   pub kept : held ≡ heldIn jn e i
 
-pub passed-none : (jn m : List ℕ) (n e : ℕ) → Passed jn m n e (replicate 8192 0) (replicate (journalLimit / journalRecordSize) 0) (recordFor 0 0 0) 0
+pub passed-none : (jn m : List ℕ) (n e : ℕ) (heads earlier : List ℕ) → 0 < length heads → Empty heads → total jn ≤ length earlier
+    → Passed (length heads) jn m n e heads earlier (recordFor 0 0 0) 0
 unfolding lastIn heldIn
-passed-none jn m n e =
-    record {
-      buckets = length-replicate {A = ℕ} 8192 0;
-      places = length-replicate {A = ℕ} (journalLimit / journalRecordSize) 0;
-      head = λ b l. getD-replicate {A = ℕ} 8192 b 0 0 l;
-      entry = below-none _;
-      good = below-none _;
-      kept = refl;
-    }
+passed-none jn m n e heads earlier z empty room =
+    record { some = z; buckets = refl; places = room; head = λ a l. empty a; entry = below-none _; good = below-none _; kept = refl }
 
-module _ {jn m : List ℕ} {n e : ℕ} {heads earlier : List ℕ} {held : JournalRecord} {i : ℕ} (s : Passed jn m n e heads earlier held i) where
+module _ {b : ℕ} {jn m : List ℕ} {n e : ℕ} {heads earlier : List ℕ} {held : JournalRecord} {i : ℕ} (s : Passed b jn m n e heads earlier held i) where
   in-use-below : (k : ℕ) → k < i → isUnused (recordIn jn k) ≡ false
   in-use-below k l = shape-in-use (recordIn jn k) (good-tells jn m n k (s .good k l) .shape)
 
@@ -149,25 +150,27 @@ module _ {jn m : List ℕ} {n e : ℕ} {heads earlier : List ℕ} {held : Journa
       rw (q, any-none (λ (k : ℕ). not (recordGood jn m n k)) i (λ k l. rw (s .good k l)), s .kept)
 
 -- record i, the next to pass, is read as r
-pub record Next (jn m : List ℕ) (n e : ℕ) (heads earlier : List ℕ) (held : JournalRecord) (i : ℕ) (r : JournalRecord) : Type 0 where
-  pub passed : Passed jn m n e heads earlier held i
+pub record Next (b : ℕ) (jn m : List ℕ) (n e : ℕ) (heads earlier : List ℕ) (held : JournalRecord) (i : ℕ) (r : JournalRecord) : Type 0 where
+  pub passed : Passed b jn m n e heads earlier held i
   pub within : i < total jn
-  pub short : length jn ≤ journalLimit
   pub read : r ≡ recordIn jn i
 
-module _ {jn m : List ℕ} {n e : ℕ} {heads earlier : List ℕ} {held : JournalRecord} {i : ℕ} {r : JournalRecord} (x : Next jn m n e heads earlier held i r) where
+module _ {b : ℕ} {jn m : List ℕ} {n e : ℕ} {heads earlier : List ℕ} {held : JournalRecord} {i : ℕ} {r : JournalRecord} (x : Next b jn m n e heads earlier held i r) where
   pub passed-size : length (take i earlier) ≡ i
-  passed-size = length-take-le i earlier (omega (arith, x .passed .places, x .within, x .short))
+  passed-size = length-take-le i earlier (omega (arith, x .passed .places, x .within))
 
-  pub passed-chained : Chained jn (take i earlier)
+  pub passed-chained : Chained b jn (take i earlier)
   passed-chained =
       record {
         inside = rw passed-size (omega (arith, x .within));
         entry = λ k l. getD-take i earlier k 0 (rw passed-size at l) ∙ x .passed .entry k (rw passed-size at l);
       }
 
-  pub passed-last : getD heads (bucketOf (r .number)) 0 ≡ lastIn jn (bucketOf (r .number)) (length (take i earlier))
-  passed-last = rw passed-size (x .passed .head (bucketOf (r .number)) (bucket-below (r .number)))
+  pub passed-bucket : bucketOf b (r .number) < b
+  passed-bucket = bucket-below b (r .number) (x .passed .some)
+
+  pub passed-last : getD heads (bucketOf b (r .number)) 0 ≡ lastIn b jn (bucketOf b (r .number)) (length (take i earlier))
+  passed-last = rw passed-size (x .passed .head (bucketOf b (r .number)) passed-bucket)
 
   -- it is in use and not good
   bad : isUnused r ≡ false → recordGood jn m n i ≡ false → Bad ≡ judged jn m n e
@@ -197,22 +200,23 @@ module _ {jn m : List ℕ} {n e : ℕ} {heads earlier : List ℕ} {held : Journa
   pub passed-more : shapeGood r ≡ true → slotUsed m n (r .slot) ≡ true
       → any (λ (k : ℕ). eqb (recordIn jn k .number) (r .number)) (length (take i earlier)) ≡ false
       → (held′ : JournalRecord) → held′ ≡ cond (eqb (r .number) e) r held
-      → Passed jn m n e (set heads (bucketOf (r .number)) (i + 1)) (set earlier i (getD heads (bucketOf (r .number)) 0)) held′ (i + 1)
+      → Passed b jn m n e (set heads (bucketOf b (r .number)) (i + 1)) (set earlier i (getD heads (bucketOf b (r .number)) 0)) held′ (i + 1)
   passed-more g f t held′ p =
-      let a = bucketOf (r .number) in
-      let at-a : bucketOf (recordIn jn i .number) ≡ a = rw (x .read) in
+      let a = bucketOf b (r .number) in
+      let at-a : bucketOf b (recordIn jn i .number) ≡ a = rw (x .read) in
       record {
+        some = x .passed .some;
         buckets = simp length-set (x .passed .buckets);
         places = simp length-set (x .passed .places);
-        head = λ b l.
-            elim (ℕ-discrete b a) [
-              | yes z ↦ rw (z, last-more jn a i, eq-eqb _ _ at-a) (getD-set-same heads a (i + 1) 0 (omega (arith, x .passed .buckets, bucket-below (r .number))))
-              | no z ↦ rw (last-more jn b i, ne-eqb _ _ (λ u. z (sym u ∙ at-a))) (getD-set-other heads a b (i + 1) 0 z ∙ x .passed .head b l)
+        head = λ k l.
+            elim (ℕ-discrete k a) [
+              | yes z ↦ rw (z, last-more b jn a i, eq-eqb _ _ at-a) (getD-set-same heads a (i + 1) 0 (omega (arith, x .passed .buckets, passed-bucket)))
+              | no z ↦ rw (last-more b jn k i, ne-eqb _ _ (λ u. z (sym u ∙ at-a))) (getD-set-other heads a k (i + 1) 0 z ∙ x .passed .head k l)
             ];
         entry =
             below-more _ i
             (λ k l. getD-set-other earlier i k _ 0 (λ z. omega arith) ∙ x .passed .entry k l)
-            (rw at-a (getD-set-same earlier i _ 0 (omega (arith, x .passed .places, x .within, x .short)) ∙ x .passed .head a (bucket-below (r .number))));
+            (rw at-a (getD-set-same earlier i _ 0 (omega (arith, x .passed .places, x .within)) ∙ x .passed .head a passed-bucket));
         good = below-more _ i (x .passed .good) (by-number g f ∙ rw t);
         kept = rw (held-more jn e i, ← x .read, ← x .passed .kept) p;
       }

@@ -13,6 +13,7 @@ ghost use Rattle.records.specs.Sizes.{journalRecordSize, journalLimit};
 ghost use Rattle.records.specs.Headers.{indexHead};
 ghost use Rattle.records.specs.Journals.{isUnused};
 ghost use Rattle.chain.specs.Cells.{Ordered};
+ghost use Rattle.chain.specs.Tables.{Empty};
 ghost use Rattle.accept.specs.Rules.{slotAt};
 ghost use Rattle.journal.specs.Journals.{recordIn, total, inUse, slotUsed, isFull, appended, looked, Reach};
 ghost use Rattle.journal.specs.Passes.{bucketOf, lastIn, Chained, judged};
@@ -60,19 +61,17 @@ fn slot_used(m: &[u8], order: &[u32], n: usize, s: u32) -> bool
     t.len != 0
 }
 
-// Numbers fall in so many buckets.
-const BUCKETS: usize = 8192;
-
 // The bucket that a number falls in: the high bits of a product in which near numbers lie far apart.
-fn bucket_of(number: u32) -> usize
-    ensures { λ r. ⌜ r ≡ bucketOf number ⌝ }
+fn bucket_of(number: u32, buckets: usize) -> usize
+    requires { ⌜ (0 < buckets) × (buckets ≤ 65536) ⌝ }
+    ensures { λ r. ⌜ r ≡ bucketOf buckets number ⌝ }
 {
-    (number as u64 * 2654435769 % 4294967296 / 524288) as usize
+    (number as u64 * 2654435769 % 4294967296 * (buckets as u64) / 4294967296) as usize
 }
 
 // Whether one of the chained records has a number. The chain of its bucket begins with `from`, and the last record comes first.
 fn stands_before(j: &[u8], earlier: &[u16], from: u16, number: u32) -> bool
-    requires { ⌜ Chained (now j) (now earlier) × (from ≡ lastIn (now j) (bucketOf number) (length (now earlier))) ⌝ }
+    requires { ⌜ ((b : ℕ) × Chained b (now j) (now earlier) × (from ≡ lastIn b (now j) (bucketOf b number) (length (now earlier)))) ⌝ }
     ensures { λ r. ⌜ r ≡ any (λ (k : ℕ). eqb (recordIn (now (j .entry)) k .number) number) (length (now (earlier .entry))) ⌝ }
 {
     let mut at = from as usize;
@@ -88,14 +87,21 @@ fn stands_before(j: &[u8], earlier: &[u16], from: u16, number: u32) -> bool
 }
 
 // The records in use, judged in one pass. Those with one bucket form a chain: `heads` has the last of each, and `earlier` the one before each record. They are
-// counted from 1, with 0 where there is none.
-fn judge_records(j: &[u8], m: &[u8], order: &[u32], n: usize, e: u32) -> Judged
-    requires { ⌜ (length (now j) ≤ journalLimit) × Reach (now m) (now order) n ⌝ }
+// counted from 1, with 0 where there is none. Both tables are lent: there are as many buckets as `heads` has entries, and `earlier` has an entry for each record.
+fn judge_records(
+    j: &[u8],
+    m: &[u8],
+    order: &[u32],
+    n: usize,
+    e: u32,
+    heads: &mut [u16],
+    earlier: &mut [u16],
+) -> Judged
+    requires { ⌜ (length (now j) ≤ journalLimit) × Reach (now m) (now order) n × (0 < length (now heads)) × (length (now heads) ≤ 65536) × Empty (now heads) × (total (now j) ≤ length (now earlier)) ⌝ }
     ensures { λ r. ⌜ r ≡ judged (now (j .entry)) (now (m .entry)) n e ⌝ }
 {
     let all = j.len() / JournalRecord::SIZE;
-    let mut heads = [0u16; BUCKETS];
-    let mut earlier = [0u16; JournalRecord::LIMIT / JournalRecord::SIZE];
+    let buckets = heads.len();
     let mut held = JournalRecord::new(0, 0, 0);
     let mut i = 0;
     while i < all {
@@ -109,7 +115,7 @@ fn judge_records(j: &[u8], m: &[u8], order: &[u32], n: usize, e: u32) -> Judged
         if !slot_used(m, order, n, r.slot) {
             return Judged::Bad;
         }
-        let bucket = bucket_of(r.number);
+        let bucket = bucket_of(r.number, buckets);
         let last = heads[bucket];
         if stands_before(j, &earlier[..i], last, r.number) {
             return Judged::Bad;
@@ -122,6 +128,27 @@ fn judge_records(j: &[u8], m: &[u8], order: &[u32], n: usize, e: u32) -> Judged
         i += 1;
     }
     Judged::Good { used: i, held }
+}
+
+// Numbers fall in so many buckets.
+const BUCKETS: usize = 8192;
+
+// A journal with room for so few records gets small tables.
+const FEW: usize = 64;
+
+// The records in use, judged with tables as large as the journal needs.
+fn judge_journal(j: &[u8], m: &[u8], order: &[u32], n: usize, e: u32) -> Judged
+    requires { ⌜ (length (now j) ≤ journalLimit) × Reach (now m) (now order) n ⌝ }
+    ensures { λ r. ⌜ r ≡ judged (now (j .entry)) (now (m .entry)) n e ⌝ }
+{
+    if j.len() <= JournalRecord::SIZE * FEW {
+        let mut heads = [0u16; 2 * FEW];
+        let mut earlier = [0u16; FEW];
+        return judge_records(j, m, order, n, e, &mut heads, &mut earlier);
+    }
+    let mut heads = [0u16; BUCKETS];
+    let mut earlier = [0u16; JournalRecord::LIMIT / JournalRecord::SIZE];
+    judge_records(j, m, order, n, e, &mut heads, &mut earlier)
 }
 
 // Whether the records from k on are all zero.
@@ -146,7 +173,7 @@ pub fn look_up(j: &[u8], m: &[u8], order: &[u32], n: usize, e: u32) -> Look
     if j.len() % JournalRecord::SIZE != 0 {
         return Look::Malformed;
     }
-    let records = judge_records(j, m, order, n, e);
+    let records = judge_journal(j, m, order, n, e);
     match records {
         Judged::Bad => Look::Malformed,
         Judged::Good { used, held } => {

@@ -35,7 +35,7 @@ sized d = record { nonzero = d .before .before .if1 .left; short = d .before .if
 
 -- the records in use are good
 judged-as : (d : tie.After-records) → let a = d .before .before .before .before .before .before .before .before .before .args in judged (now (a .j)) (now (a .m)) (a .n) (a .e) ≡ Good (d .records .given .0 .0) (d .records .given .0 .1 .0)
-judged-as d = sym (d .before .before .judge-records .ensures) ∙ d .records .given .1
+judged-as d = sym (d .before .before .judge-journal .ensures) ∙ d .records .given .1
 
 rest-unused-requires : tie.Need-rest-unused-requires
 rest-unused-requires c κs =
@@ -57,7 +57,7 @@ returns-5 c =
 returns-6 : tie.Need-returns-6
 returns-6 c =
     let d = c .before .before in
-    look-bad (sized (d .before)) (rw (← d .judge-records .ensures) (c .enum-told .given .1))
+    look-bad (sized (d .before)) (rw (← d .judge-journal .ensures) (c .enum-told .given .1))
 
 returns-7 : tie.Need-returns-7
 returns-7 c =
