@@ -59,6 +59,7 @@ impl Bench {
     pub fn all(&mut self) {
         self.checks();
         self.searches();
+        self.edits_on_one_object();
         self.edits("20 blocks", maps::own_objects(7, 20));
         self.edits("2,000 blocks", maps::full(7, 2_000, ROOM));
         self.growth();
@@ -69,6 +70,8 @@ impl Bench {
     fn checks(&mut self) {
         let empty = Map::new(7);
         self.check(CHECK, "empty map", &empty);
+        self.check(CHECK, "one block, one object", &one_object());
+        self.check(CHECK, "one full block and one full symbol block", &maps::symbols(1, 1, 348));
         self.check(CHECK, "20 full blocks, OCAD 7, own objects", &maps::own_objects(7, 20));
         self.check(CHECK, "1,000 full blocks, OCAD 7, own objects", &maps::own_objects(7, 1_000));
         self.check(CHECK, "2,000 full blocks, OCAD 7", &maps::full(7, 2_000, ROOM));
@@ -77,12 +80,26 @@ impl Bench {
     }
 
     fn searches(&mut self) {
+        self.search(SEARCH, "all-covering window, one object", &one_object(), i32::MAX);
         let map = maps::own_objects(7, 20);
         self.search(SEARCH, "small window, 20 blocks", &map, 1_000);
         self.search(SEARCH, "all-covering window, 20 blocks", &map, i32::MAX);
         let map = maps::full(8, 2_000, ROOM);
         self.search(SEARCH, SMALL_WINDOW, &map, 1_000);
         self.search(SEARCH, "all-covering window, 2,000 blocks", &map, i32::MAX);
+    }
+
+    /// Edits on a map that has just begun, under journals without a record.
+    fn edits_on_one_object(&mut self) {
+        let map = one_object();
+        let add = Call::Add { edit: 1, object: Offered::new(&maps::object(101, &[(5, 5)], 1)) };
+        let remove = Call::Remove { edit: 1, at: 0 };
+        for records in [16, 4_096] {
+            let of = format!("one object, new journal of {}", grouped(records));
+            let lent = || lend(&map, vec![0; 16 * records]);
+            self.row(EDITS, &format!("add, {of}"), lent(), add.clone(), Want::Done);
+            self.row(EDITS, &format!("remove, {of}"), lent(), remove.clone(), Want::Done);
+        }
     }
 
     /// Edits on a map with all slots live, under a journal of 4,096 records with rising numbers.
@@ -172,6 +189,13 @@ impl Bench {
         let lent = lend(&held, journal);
         self.row(WORST, "repeated add: object of 32,768 pairs", lent, call, Want::DoneBefore);
     }
+}
+
+/// A map of one block, with an object in slot 0.
+fn one_object() -> Map {
+    let mut map = Map::new(8);
+    map.hold(&maps::object(101, &[(3, 4)], 1));
+    map
 }
 
 fn lend(map: &Map, journal: Vec<u8>) -> Lent {

@@ -130,11 +130,11 @@ fn judge_records(
     Judged::Good { used: i, held }
 }
 
-// Numbers fall in so many buckets.
-const BUCKETS: usize = 8192;
-
 // A journal with room for so few records gets small tables.
 const FEW: usize = 64;
+
+// The numbers of any other fall in so many buckets.
+const BUCKETS: usize = 8192;
 
 // The records in use, judged with tables as large as the journal needs.
 fn judge_journal(j: &[u8], m: &[u8], order: &[u32], n: usize, e: u32) -> Judged

@@ -6,7 +6,6 @@
 --     sameBytes a b     whether two lists are equal, element by element
 --     Zeros xs lo hi    the elements from index lo to below hi are 0
 --     Alike a b lo hi   the elements from index lo to below hi are the same
---     Line a b at i     the parts of a line from at on that are compared together are the same, as far as i goes in the first 16 bytes
 --     Tells x P         a test answers x exactly where P holds
 use mathlib.Core.List.{List, [], _∷_}
 use mathlib.Core.Bool.{Bool, true, false, _&&_}
@@ -43,9 +42,6 @@ Zeros xs lo hi = (i : ℕ) → lo ≤ i → i < hi → getD xs i 0 ≡ 0
 
 abbrev pub Alike : List ℕ → List ℕ → ℕ → ℕ → Type 0
 Alike a b lo hi = (i : ℕ) → lo ≤ i → i < hi → getD a i 0 ≡ getD b i 0
-
-abbrev pub Line : List ℕ → List ℕ → ℕ → ℕ → Type 0
-Line a b at i = Alike a b (at + 512) (i + 512) × Alike a b (at + 16) (i + 16) × Alike a b (at + 32) (i + 32) × Alike a b (at + 48) (i + 48)
 
 pub record Tells (x : Bool) (P : Type 0) : Type 0 where
   pub so : x ≡ true → P

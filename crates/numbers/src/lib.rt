@@ -4,7 +4,7 @@ ghost use Prim.Native.Nat.{_+_, _*_, _≤_, _<_};
 ghost use lib.ListN.{length, replicate};
 ghost use lib.Seq.{sets};
 ghost use lib.Signed.{leZ};
-ghost use Rattle.numbers.specs.Bytes.{u16At, u32At, bytesOf, sameBytes, Zeros, Alike, Line, Tells};
+ghost use Rattle.numbers.specs.Bytes.{u16At, u32At, bytesOf, sameBytes, Zeros, Alike, Tells};
 ghost use Rattle.numbers.specs.Coordinates.{signed16, signed32, valueOf, unmarked, signFlipped};
 ghost use Rattle.numbers.specs.Ranges.{share};
 
@@ -215,48 +215,19 @@ fn same_part(a: &[u8], b: &[u8], from: usize, to: usize) -> bool
     alike
 }
 
-// Whether two slices hold the same bytes in the line of 64 bytes from a place on, but for its first 16, and in the first 16 of the line that comes 512 bytes
-// later. So that line is on its way long before it is compared.
-fn same_line(a: &[u8], b: &[u8], at: usize) -> bool
-    requires { ⌜ (at + 576 ≤ length (now a)) × (at + 576 ≤ length (now b)) ⌝ }
-    ensures { λ r. ⌜ Tells r (Line (now (a .entry)) (now (b .entry)) at (at + 16)) ⌝ }
-{
-    let mut alike = true;
-    let mut i = at;
-    while i < at + 16 {
-        alike = alike
-            & (a[i + 512] == b[i + 512])
-            & (a[i + 16] == b[i + 16])
-            & (a[i + 32] == b[i + 32])
-            & (a[i + 48] == b[i + 48]);
-        i += 1;
-    }
-    alike
-}
-
-// Whether two slices of one length, 512 at least, hold the same bytes.
-fn same_long(a: &[u8], b: &[u8]) -> bool
-    requires { ⌜ (512 ≤ length (now a)) × (length (now a) ≡ length (now b)) ⌝ }
-    ensures { λ r. ⌜ Tells r (Alike (now (a .entry)) (now (b .entry)) 0 (length (now (a .entry)))) ⌝ }
-{
-    let mut alike = same_part(a, b, 0, 512);
-    let mut at = 0;
-    while 576 <= a.len() - at {
-        alike = alike & same_line(a, b, at);
-        at += 64;
-    }
-    alike & same_part(a, b, at, a.len())
-}
-
-// Whether two slices hold the same bytes.
+// Whether two slices hold the same bytes. They are compared 512 at a time: a part of a length that the compiler knows becomes vector instructions without a
+// loop.
 pub fn same(a: &[u8], b: &[u8]) -> bool
     ensures { λ r. ⌜ r ≡ sameBytes (now (a .entry)) (now (b .entry)) ⌝ }
 {
     if a.len() != b.len() {
         return false;
     }
-    if a.len() < 512 {
-        return same_part(a, b, 0, a.len());
+    let mut alike = true;
+    let mut at = 0;
+    while 512 <= a.len() - at {
+        alike = alike & same_part(a, b, at, at + 512);
+        at += 512;
     }
-    same_long(a, b)
+    alike & same_part(a, b, at, a.len())
 }
