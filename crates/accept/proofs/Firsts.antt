@@ -2,7 +2,7 @@
 --     first-same      a test that answers alike on the numbers below n has the same first
 --     first-after     the first of a run behind numbers that all fail is the first of all
 --     firstOr p n d   the first number below n that passes, or else d
---     or-run          that, with a run of numbers more
+--     or-run          that, with a run of numbers more; or-found, or-not with one more
 use Prim.Native.Nat.{ℕ, _+_, _-_, _≤_, _<_}
 use mathlib.Core.Bool.{Bool, true, false, cond}
 use mathlib.Core.Path.{_≡_, refl, sym, ap, _∙_}
@@ -58,6 +58,18 @@ or-run p n c d f l h = go (ltb (first p n) n) refl (ltb f c) refl
     go false x false y =
         let g = ltb-false f c y in
         rw (x, y, later (ltb-false (first p n) n x), le-ltb (n + f) (n + c) (omega arith))
+
+-- and with one number more, by what the test says of it
+pub or-found : (p : ℕ → Bool) (n d : ℕ) → n < d → p n ≡ true → firstFree true (firstOr p n d) n ≡ firstOr p (n + 1) d
+or-found p n d l e =
+    let z : n + 0 ≡ n = omega arith in
+    let h : First (λ j. p (n + j)) 1 0 = record { within = omega arith; before = λ i g. absurd (omega arith); here = λ g. ap p z ∙ e } in
+    ap (firstFree true (firstOr p n d)) (sym z) ∙ or-run p n 1 d 0 (omega arith) h
+
+pub or-not : (p : ℕ → Bool) (n d : ℕ) → n < d → p n ≡ false → firstOr p n d ≡ firstOr p (n + 1) d
+or-not p n d l e =
+    or-run p n 1 d 1 (omega arith)
+    (record { within = omega arith; before = λ i g. let z : n + i ≡ n = omega arith in ap p z ∙ e; here = λ g. absurd (omega arith) })
 
 -- below 0 there is none, and below n, n itself stands for none
 pub or-none : (p : ℕ → Bool) (d : ℕ) → firstOr p 0 d ≡ d

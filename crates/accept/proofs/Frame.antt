@@ -3,44 +3,36 @@
 -- every slot whose 24 bytes are as they were are judged as before, so the map is accepted as before. Assumes nothing.
 use Prim.Native.Nat.{ℕ, suc, _+_, _-_, _*_, _/_, _≤_, _<_}
 use mathlib.Core.Bool.{Bool, true, false, _||_}
-use mathlib.Core.Path.{_≡_, refl, sym, ap, ap₂, _∙_}
+use mathlib.Core.Path.{_≡_, refl, sym, _∙_}
 use mathlib.Core.Logic.{_⊎_, inl, inr, ⊎-elim}
 use mathlib.Core.List.{List}
 use native.Mathlib.Decide.{ℕ-discrete}
-use native.Mathlib.Nat.{add-assoc, add-zero}
 use native.Mathlib.Omega.{arith}
-use lib.Dec.{ltb, eqb}
-use lib.ListN.{length, getD, take, drop, length-take, length-drop}
-use lib.Seq.{getD-drop, getD-take, ext-getD}
-use borrow.Author.Tests.{ltb-true, ltb-false}
+use lib.Dec.{eqb}
+use lib.ListN.{length, getD, drop}
+use lib.Seq.{getD-drop}
 use Rattle.numbers.specs.Bytes.{leAt, u16At, u32At}
 use Rattle.numbers.specs.Below.{any}
 use Rattle.numbers.specs.Ranges.{share}
 use Rattle.numbers.proofs.Bytes.{leAt-cong}
-use Rattle.numbers.proofs.Below.{never, any-none, any-false, any-true, any-at}
+use Rattle.numbers.proofs.Below.{any-none, any-false, any-true, any-at}
 use Rattle.numbers.proofs.Ranges.{share-part, share-after, within-true, within-is}
 use Rattle.numbers.proofs.Coordinates.{lt-or-ge}
 use Rattle.records.specs.declared.Slot.{Slot}
 use Rattle.records.specs.declared.Part.{Part}
-use Rattle.records.specs.declared.ObjectHeader.{ObjectHeader}
-use Rattle.records.specs.Headers.{indexHead, symbolHead, setupAt, infoAt, partOf}
+use Rattle.records.specs.Headers.{indexHead, symbolHead, partOf}
 use Rattle.records.specs.Slots.{slotOf, stateOf, bytesIn}
 use Rattle.records.specs.Objects.{objectOf}
-use Rattle.records.specs.Symbols.{sizeGood}
-use Rattle.records.proofs.Symbols.{size-small}
 use Rattle.chain.specs.Chains.{place, block, meetsBlock, walked, inside}
-use Rattle.chain.specs.Cells.{cellAt}
 use Rattle.chain.specs.declared.Walk.the-variants.{Blocks}
-use Rattle.chain.proofs.Chains.{Pass, Passed, walked-pass, walked-end, place-suc}
-use Rattle.chain.proofs.Cells.{Lies, cell-lies}
-use Rattle.chain.proofs.Frame.{Kept, less, cells-kept, Edited, walked-kept}
-use Rattle.accept.specs.declared.Verdict.the-variants.{Accepted}
+use Rattle.chain.proofs.Chains.{Pass, walked-pass, walked-end, place-suc}
+use Rattle.chain.proofs.Cells.{cell-lies}
+use Rattle.chain.proofs.Frame.{Kept, less, cells-kept, walked-kept}
 use Rattle.accept.specs.Rules.{indexRule, symbolRule, touches, slotAt, entryAt}
-use Rattle.accept.specs.Judging.{versionOf, partGood, slotGood, isLive, badSlot, badEntry}
-use Rattle.accept.specs.Verdicts.{verdict}
+use Rattle.accept.specs.Judging.{versionOf, partGood, isLive, badSlot, badEntry}
 use Rattle.accept.proofs.Judging.{size-two, bytes-least}
 use Rattle.accept.proofs.Accepting.{Holds}
-use Rattle.accept.proofs.Telling.{GoodSlot, slot-is, slot-tells, GoodSymbol, bad-tells, bad-good, bad-dead, entry-tells, entry-good, entry-unused}
+use Rattle.accept.proofs.Telling.{GoodSlot, GoodSymbol, bad-tells, bad-good, bad-dead, entry-tells, entry-good, entry-unused}
 
 pub record Change (m m′ : List ℕ) (used used′ n n′ : ℕ) : Type 0 where
   pub grown : used ≤ used′

@@ -34,24 +34,29 @@ pub free-most : (m : List ℕ) (n : ℕ) → freeSlot m n ≤ 256 * n
 unfolding freeSlot
 free-most m n = first-law (λ i. sameState Free (stateOf (slotIn m i))) (256 * n) .within
 
--- ---- whether a slot is at fault, by its fields as they are tested
+-- ---- whether a slot is free and whether it is at fault, by its fields as they are tested
+
+module _ (m : List ℕ) (p : ℕ) {t : Slot} (e : t ≡ slotOf m p) where
+  pub no-len : t .len ≡ 0 → noLen m p ≡ true
+  unfolding slotOf
+  no-len z = eq-eqb (u16At m (p + 20)) 0 (sym (ap (λ (x : Slot). x .len) e) ∙ z)
+
+  pub has-len : (t .len ≡ 0 → ⊥) → noLen m p ≡ false
+  unfolding slotOf
+  has-len z = ne-eqb (u16At m (p + 20)) 0 (λ g. z (ap (λ (x : Slot). x .len) e ∙ g))
 
 module _ (touch : ℕ → ℕ → Bool) (m : List ℕ) (used v p : ℕ) {t : Slot} (e : t ≡ slotOf m p) where
   pub fault-free : t .len ≡ 0 → badSlot touch m used v p ≡ false
   unfolding badSlot slotOf stateOf
-  fault-free z = rw (eq-eqb (u16At m (p + 20)) 0 (sym (ap (λ (x : Slot). x .len) e) ∙ z))
-
-  has-len : (t .len ≡ 0 → ⊥) → noLen m p ≡ false
-  unfolding slotOf
-  has-len z = ne-eqb (u16At m (p + 20)) 0 (λ g. z (ap (λ (x : Slot). x .len) e ∙ g))
+  fault-free z = rw (no-len m p e z)
 
   pub fault-erased : (t .len ≡ 0 → ⊥) → t .sym ≡ 0 → badSlot touch m used v p ≡ false
   unfolding badSlot slotOf stateOf
-  fault-erased z y = rw (has-len z, eq-eqb (u16At m (p + 22)) 0 (sym (ap (λ (x : Slot). x .sym) e) ∙ y))
+  fault-erased z y = rw (has-len m p e z, eq-eqb (u16At m (p + 22)) 0 (sym (ap (λ (x : Slot). x .sym) e) ∙ y))
 
   pub fault-live : (t .len ≡ 0 → ⊥) → (t .sym ≡ 0 → ⊥) → badSlot touch m used v p ≡ not (slotGood touch m used v t)
   unfolding badSlot slotOf stateOf
-  fault-live z y = rw (has-len z, ne-eqb (u16At m (p + 22)) 0 (λ g. y (ap (λ (x : Slot). x .sym) e ∙ g)), e)
+  fault-live z y = rw (has-len m p e z, ne-eqb (u16At m (p + 22)) 0 (λ g. y (ap (λ (x : Slot). x .sym) e ∙ g)), e)
 
 -- ---- a verdict with the first free slot, and without it again
 

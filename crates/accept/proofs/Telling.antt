@@ -1,7 +1,7 @@
 -- What a good slot and a good symbol record tell, and what shows them: a record with a field for each of document 01's conditions. Assumes nothing.
-use Prim.Native.Nat.{ℕ, _+_, _*_, _≤_, _<_}
+use Prim.Native.Nat.{ℕ, _+_, _≤_}
 use mathlib.Core.Bool.{Bool, true, false, not, _&&_}
-use mathlib.Core.Path.{_≡_, refl, sym, ap, _∙_}
+use mathlib.Core.Path.{_≡_, refl, sym}
 use mathlib.Core.List.{List}
 use lib.Dec.{eqb}
 use lib.ListN.{drop}
@@ -12,7 +12,6 @@ use Rattle.numbers.specs.Coordinates.{valueOf}
 use Rattle.numbers.proofs.Below.{never}
 use Rattle.numbers.proofs.Ranges.{within-true, within-is}
 use Rattle.records.specs.declared.Slot.{Slot}
-use Rattle.records.specs.declared.State.{State}
 use Rattle.records.specs.Slots.{slotOf, stateOf, lenGood, bytesIn}
 use Rattle.records.specs.Objects.{objectOf}
 use Rattle.records.specs.Symbols.{sizeGood}

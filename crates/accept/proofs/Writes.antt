@@ -2,7 +2,7 @@
 -- leaves of the slots is said beside it. Assumes nothing.
 use Prim.Native.Nat.{ℕ, zero, suc, _+_, _*_, _/_, _≤_, _<_}
 use mathlib.Core.Bool.{Bool, true, false, _||_}
-use mathlib.Core.Path.{_≡_, refl, sym, ap, ap₂, _∙_}
+use mathlib.Core.Path.{_≡_, refl, _∙_}
 use mathlib.Core.Logic.{_⊎_, inl, inr, ⊎-elim}
 use mathlib.Core.List.{List}
 use native.Mathlib.Decide.{decLe}
@@ -12,7 +12,7 @@ use lib.Dec.{eqb}
 use lib.ListN.{length, getD}
 use borrow.Author.Tests.{eqb-true}
 use lib.Seq.{sets, length-sets}
-use Rattle.numbers.specs.Bytes.{leAt, u32At, bytesOf}
+use Rattle.numbers.specs.Bytes.{u32At, bytesOf}
 use Rattle.numbers.specs.Ranges.{share}
 use Rattle.numbers.proofs.Bytes.{leAt-cong, leAt-bytesOf, length-bytesOf, getD-sets-low, getD-sets-high, getD-sets-in}
 use Rattle.numbers.proofs.Below.{any-false}
@@ -24,7 +24,7 @@ use Rattle.records.proofs.Slots.{slot-cong}
 use Rattle.chain.specs.Chains.{place, block, meetsBlock, walked, inside}
 use Rattle.chain.specs.Cells.{cellIn}
 use Rattle.chain.specs.declared.Walk.the-variants.{Blocks}
-use Rattle.chain.proofs.Chains.{Pass, Passed, walked-pass, walked-end, place-suc, apart}
+use Rattle.chain.proofs.Chains.{Pass, walked-pass, walked-end, place-suc, apart}
 use Rattle.chain.proofs.Cells.{Lies, cell-lies, cells-apart, links-apart, cell-no}
 use Rattle.chain.proofs.Frame.{Kept, less, places-kept, blocks-kept, cells-kept, store-kept, walked-kept, Added, walked-added, added-block}
 use Rattle.accept.specs.Rules.{indexRule, touches, slotAt}

@@ -22,7 +22,6 @@ use Rattle.records.specs.declared.State.{State}
 use Rattle.records.specs.declared.State.the-variants.{Free, Erased, Live}
 use Rattle.records.specs.declared.ObjectHeader.{ObjectHeader}
 use Rattle.records.specs.Sizes.{headerSize, mapLimit}
-use Rattle.records.specs.Headers.{headerOf}
 use Rattle.records.specs.Slots.{slotOf, stateOf, lenGood, pairsOf, bytesIn}
 use Rattle.records.specs.Objects.{objectOf, typeGood}
 use Rattle.records.specs.Symbols.{sizeGood}

@@ -4,7 +4,6 @@
 --     noLen m p         whether the slot at a place has no Len, which is what makes it free
 --     firstFree b f s   the first free slot by the one found before s, f, and whether s is free
 --     freeIn m b j      whether slot j of the block at b is free
---     blockJudged ..    the first slot at fault of the block at a place
 --     withFree m v      a verdict, with the first free slot where it is accepted
 use Prim.Native.Nat.{ℕ, _+_, _*_}
 use mathlib.Core.Bool.{Bool, true, false, cond}
@@ -21,10 +20,7 @@ use Rattle.accept.specs.declared.Verdict.{Verdict}
 use Rattle.accept.specs.declared.Verdict.the-variants.{Accepted, Refused}
 use Rattle.accept.specs.declared.Examined.{Examined}
 use Rattle.accept.specs.declared.Examined.the-variants as examined
-use Rattle.accept.specs.declared.Judged.{Judged}
 use Rattle.accept.specs.Rules.{slotAt}
-use Rattle.accept.specs.Judging.{badSlot}
-use Rattle.accept.specs.Verdicts.{cellsJudged}
 
 unfoldable pub slotIn : List ℕ → ℕ → Slot
 slotIn m s = slotOf m (slotAt m s)
@@ -41,9 +37,6 @@ firstFree false free s = free
 
 abbrev pub freeIn : List ℕ → ℕ → ℕ → Bool
 freeIn m b j = noLen m (cellIn b slotSize j)
-
-abbrev pub blockJudged : (ℕ → ℕ → Bool) → List ℕ → ℕ → ℕ → ℕ → Judged
-blockJudged touch m used v b = cellsJudged 7 (λ j. badSlot touch m used v (cellIn b slotSize j)) (cellIn b slotSize) 256
 
 abbrev pub withFree : List ℕ → Verdict → Examined
 withFree m (Accepted n) = examined.Accepted n (freeSlot m n)

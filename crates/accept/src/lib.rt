@@ -22,21 +22,21 @@ use records::type_good;
 ghost use mathlib.Core.Path.{_≡_};
 ghost use mathlib.Core.Bool.{true, _&&_};
 ghost use Prim.Native.Nat.{ℕ, _+_, _*_, _≤_, _<_};
-ghost use lib.ListN.{length, drop};
+ghost use lib.ListN.{length};
 ghost use Rattle.numbers.specs.Bytes.{u32At};
 ghost use Rattle.numbers.specs.Below.{first};
 ghost use Rattle.records.specs.Sizes.{headerSize, indexBlockSize, indexPage, slotSize, symbolBlockSize, symbolPage, entrySize, mapLimit};
-ghost use Rattle.records.specs.Headers.{headerOf, indexHead};
-ghost use Rattle.records.specs.Slots.{lenGood, bytesIn, bytesInRange};
+ghost use Rattle.records.specs.Headers.{indexHead};
+ghost use Rattle.records.specs.Slots.{slotOf, lenGood, bytesIn, bytesInRange};
 ghost use Rattle.chain.specs.Chains.{walked, taken};
 ghost use Rattle.chain.specs.Cells.{cellIn};
 ghost use Rattle.chain.specs.Tables.{Empty, Placed, Filled, Table, EndsTable, endsMeet};
 ghost use Rattle.chain.specs.declared.Walk.the-variants.{Blocks};
 ghost use Rattle.accept.specs.declared.Verdict.the-variants.{Accepted};
 ghost use Rattle.accept.specs.declared.Examined.the-variants as examined;
-ghost use Rattle.accept.specs.Slots.{firstFree, freeIn, blockJudged, withFree};
+ghost use Rattle.accept.specs.Slots.{firstFree, freeIn, withFree};
 ghost use Rattle.accept.specs.Rules.{indexRule, symbolRule, indexKind, symbolKind};
-ghost use Rattle.accept.specs.Judging.{versionOf, lengthGood, partGood, headerFits, objectGood, slotGood, badSlot, symbolGood, badEntry};
+ghost use Rattle.accept.specs.Judging.{partGood, headerFits, objectGood, slotGood, badSlot, symbolGood, badEntry};
 ghost use Rattle.accept.specs.Verdicts.{numberOf, placeOf, unless, fieldsJudged, headerJudged, cellsJudged, entriesJudged, symbolsJudged, slotsJudged, afterIndex, verdict};
 
 // What the check answers. Refusals carry document 01's number and place.
@@ -55,6 +55,12 @@ pub enum Examined {
 pub enum Judged {
     Good,
     Bad { number: u32, place: u32 },
+}
+
+// What the slots of a block are judged to be: the first at fault, and the first free, 256 where there is none.
+pub struct Seen {
+    pub bad: usize,
+    pub free: usize,
 }
 
 // Document 01's number of an answer.
@@ -193,21 +199,17 @@ pub fn slot_good(m: &[u8], used: usize, version: u16, index: &[u32], t: Slot) ->
     if !at_most(t.left, t.right) {
         return false;
     }
-    if !at_most(t.bottom, t.top) {
+    if !object_good(m, used, version, index, t) {
         return false;
     }
-    object_good(m, used, version, index, t)
+    at_most(t.bottom, t.top)
 }
 
-// Whether the slot at a place is live and not good.
-fn bad_slot(m: &[u8], used: usize, version: u16, index: &[u32], at: usize) -> bool
-    requires { ⌜ (at + slotSize ≤ length (now m)) × (used ≤ mapLimit) × (used ≤ length (now m)) × (used + indexPage ≤ length (now index) * indexPage) × Filled indexBlockSize indexPage used (now index) ⌝ }
-    ensures { λ r. ⌜ r ≡ badSlot (endsMeet indexBlockSize (now (index .entry))) (now (m .entry)) used version at ⌝ }
+// Whether a slot that is not free is live and not good.
+fn bad_slot(m: &[u8], used: usize, version: u16, index: &[u32], t: Slot) -> bool
+    requires { ⌜ (used ≤ mapLimit) × (used ≤ length (now m)) × (used + indexPage ≤ length (now index) * indexPage) × Filled indexBlockSize indexPage used (now index) × (t .len ≡ 0 → ⊥) ⌝ }
+    ensures { λ r. ⌜ ((at : ℕ) → t ≡ slotOf (now (m .entry)) at → r ≡ badSlot (endsMeet indexBlockSize (now (index .entry))) (now (m .entry)) used version at) ⌝ }
 {
-    let t = Slot::at(m, at);
-    if t.len == 0 {
-        return false;
-    }
     if t.sym == 0 {
         return false;
     }
@@ -225,41 +227,25 @@ fn first_free(is: bool, free: usize, s: usize) -> usize
     }
 }
 
-// The first free slot of a block, 256 where none is free. So small a loop has the whole block on its way from memory before its slots are judged.
-fn free_in_block(m: &[u8], block: usize) -> usize
-    requires { ⌜ (block + indexBlockSize ≤ length (now m)) × (block < 4294967296) ⌝ }
-    ensures { λ r. ⌜ r ≡ first (freeIn (now (m .entry)) block) 256 ⌝ }
-{
-    let mut at = block + 4 + Slot::LEN;
-    let mut j = 0;
-    while j < 256 {
-        if u16_at(m, at) == 0 {
-            return j;
-        }
-        at += Slot::SIZE;
-        j += 1;
-    }
-    256
-}
-
-// 7, of one index block: the first slot at fault.
-fn judge_block_slots(m: &[u8], used: usize, version: u16, index: &[u32], block: usize) -> Judged
+// 7, of one index block: the slots in their order, up to the first at fault. The first free slot is told where none is at fault.
+fn judge_block_slots(m: &[u8], used: usize, version: u16, index: &[u32], block: usize) -> Seen
     requires { ⌜ (block + indexBlockSize ≤ used) × (used ≤ mapLimit) × (used ≤ length (now m)) × (used + indexPage ≤ length (now index) * indexPage) × Filled indexBlockSize indexPage used (now index) ⌝ }
-    ensures { λ r. ⌜ r ≡ blockJudged (endsMeet indexBlockSize (now (index .entry))) (now (m .entry)) used version block ⌝ }
+    ensures { λ r. ⌜ (r .bad ≡ first (λ j. badSlot (endsMeet indexBlockSize (now (index .entry))) (now (m .entry)) used version (cellIn block slotSize j)) 256) × (r .bad ≡ 256 → r .free ≡ first (freeIn (now (m .entry)) block) 256) ⌝ }
 {
     let mut at = block + 4;
+    let mut free = 256;
     let mut j = 0usize;
     while j < 256 {
-        if bad_slot(m, used, version, index, at) {
-            return Judged::Bad {
-                number: 7,
-                place: at as u32,
-            };
+        let t = Slot::at(m, at);
+        if t.len == 0 {
+            free = first_free(true, free, j);
+        } else if bad_slot(m, used, version, index, t) {
+            return Seen { bad: j, free };
         }
         at += Slot::SIZE;
         j += 1;
     }
-    Judged::Good
+    Seen { bad: 256, free }
 }
 
 // 7: the live slot at fault of lowest number. Where there is none, the first free slot, 256 times the blocks where none is free.
@@ -268,20 +254,19 @@ fn judge_slots(m: &[u8], used: usize, index: &[u32], n: usize) -> Examined
     ensures { λ r. ⌜ r ≡ withFree (now (m .entry)) (unless (slotsJudged (now (m .entry)) used n) (Accepted n)) ⌝ }
 {
     let version = u16_at(m, Header::VERSION);
-    let mut at = Header::INDEX;
+    let mut at = u32_at(m, Header::INDEX) as usize;
     let mut free = 256 * n;
     let mut k = 0;
     while k < n {
-        at = u32_at(m, at) as usize;
-        let f = free_in_block(m, at);
-        free = first_free(f < 256, free, 256 * k + f);
-        let j = judge_block_slots(m, used, version, index, at);
-        match j {
-            Judged::Bad { number, place } => {
-                return Examined::Refused { number, place };
-            }
-            Judged::Good => {}
+        let seen = judge_block_slots(m, used, version, index, at);
+        if seen.bad < 256 {
+            return Examined::Refused {
+                number: 7,
+                place: IndexBlock::new(at).slot(seen.bad) as u32,
+            };
         }
+        free = first_free(seen.free < 256, free, 256 * k + seen.free);
+        at = u32_at(m, at) as usize;
         k += 1;
     }
     Examined::Accepted { blocks: n, free }

@@ -5,21 +5,20 @@ use mathlib.Core.Bool.{Bool, true, false, cond}
 use mathlib.Core.Path.{_≡_, refl, sym, ap, _∙_}
 use mathlib.Core.List.{List}
 use mathlib.Core.Logic.{⊎-elim}
-use borrow.Author.Tests.{ltb-true, ltb-false, lt-ltb, le-ltb, eqb-true, eq-eqb, ne-eqb}
+use borrow.Author.Tests.{ltb-true, ltb-false, lt-ltb, le-ltb, eq-eqb, ne-eqb}
 use native.Mathlib.Numerals.{add-one}
-use native.Mathlib.Nat.{div-add-mod', mod-lt, div-lt-iff-lt-mul, add-mul, one-mul}
+use native.Mathlib.Nat.{div-add-mod', mod-lt, add-mul, one-mul}
 use native.Mathlib.Decide.{ℕ-discrete}
 use native.Mathlib.Omega.{arith}
-use lib.Dec.{eqb, ltb}
+use lib.Dec.{ltb}
 use lib.ListN.{getD, length, set}
 use lib.Seq.{getD-set-same, getD-set-other}
 use borrow.Author.Count.{below-more}
 use Rattle.numbers.specs.Ranges.{share}
-use Rattle.numbers.specs.Below.{any}
 use Rattle.numbers.proofs.Below.{any-none, below-cases}
 use Rattle.numbers.proofs.Ranges.{share-before, share-after}
 use Rattle.chain.specs.Chains.{Rule, block}
-use Rattle.chain.specs.Tables.{Empty, Placed, Table, lastBelow, endOf, startsOf, Carried, LastStarts, Filled, EndsTable, lastEnd, entryMeets, tableMeets, endsMeet, Bounds}
+use Rattle.chain.specs.Tables.{Empty, Placed, Table, lastBelow, endOf, startsOf, Carried, LastStarts, Filled, EndsTable, entryMeets, tableMeets, endsMeet, Bounds}
 use Rattle.chain.specs.declared.Kind.{Kind}
 use Rattle.chain.proofs.Chains.{Pass}
 use Rattle.chain.proofs.Pigeon.{div-lt, div-mono, div-below}
@@ -340,7 +339,11 @@ module _ {w : ℕ} {t : List ℕ} (n p len : ℕ) (f : LastStarts w (p + len) t)
           let l = ltb-false p (lastBefore w t (p + len) + n) e in
           unmet (λ c nc g. omega (arith, l, v .most c nc g))
 
--- ---- the end of that block
+-- ---- the end of that block: by a filled table, the end of the last block that starts before `end`, or 0
+
+unfoldable pub lastEnd : ℕ → ℕ → List ℕ → ℕ → ℕ
+lastEnd n w t end =
+    cond (ltb (getD t ((end - 1) / w + 1) 0) (end + n)) (getD t ((end - 1) / w + 1) 0) (getD t ((end - 1) / w) 0)
 
 module _ (n w : ℕ) (t : List ℕ) (end : ℕ) where
   -- it ends where the last start tells

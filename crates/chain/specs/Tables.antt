@@ -12,7 +12,6 @@
 --     LastStarts w end t        every entry is a block that starts before its page, and the last such one where the page before starts before `end`
 --     Filled n w end t          every entry is 0 or an end of a block of n bytes, and their starts are the last ones
 --     EndsTable n h w m k t     t has the ends of exactly the first k blocks of that chain
---     lastEnd n w t end         by a filled table: the end of the last block that starts before `end`, or 0
 --     entryMeets n t p len b    whether entry b, a block of n bytes, shares a byte with the len bytes from p on
 --     tableMeets n t p len      whether some entry does
 --     endsMeet n t p len        the same, where t has the ends
@@ -26,7 +25,7 @@ use mathlib.Core.Bool.{Bool, not, cond, _&&_, _||_}
 use mathlib.Core.List.{List, [], _∷_}
 use mathlib.Core.Path.{_≡_}
 use lib.ListN.{getD, length}
-use lib.Dec.{eqb, ltb}
+use lib.Dec.{eqb}
 use Rattle.numbers.specs.Ranges.{share}
 use Rattle.numbers.specs.Below.{any}
 use Rattle.records.specs.Sizes.{headerSize, mapLimit}
@@ -69,10 +68,6 @@ pub record Filled (n w end : ℕ) (t : List ℕ) : Type 0 where
 
 pub record EndsTable (n h w : ℕ) (m : List ℕ) (k : ℕ) (t : List ℕ) : Type 0 where
   pub table : Table h w m k (startsOf n t)
-
-unfoldable pub lastEnd : ℕ → ℕ → List ℕ → ℕ → ℕ
-lastEnd n w t end =
-    cond (ltb (getD t ((end - 1) / w + 1) 0) (end + n)) (getD t ((end - 1) / w + 1) 0) (getD t ((end - 1) / w) 0)
 
 unfoldable pub entryMeets : ℕ → List ℕ → ℕ → ℕ → ℕ → Bool
 entryMeets n t p len b = not (eqb (getD t b 0) 0) && share (getD t b 0) n p len

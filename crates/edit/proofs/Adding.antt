@@ -15,23 +15,17 @@ use lib.Dec.{eqb, ltb}
 use lib.ListN.{length, take, drop, replicate, length-append, length-replicate, replicate-append-replicate}
 use lib.Seq.{sets, length-sets, take-at, drop-at}
 use borrow.Author.Tests.{lt-ltb, le-ltb, ltb-true, lt-leb, le-leb}
-use Rattle.numbers.specs.Bytes.{u16At}
 use Rattle.numbers.proofs.Bytes.{lent-sets, sets-splice}
-use Rattle.numbers.proofs.Below.{first-is, first-law}
 use Rattle.records.specs.declared.Slot.{Slot}
-use Rattle.records.specs.declared.State.the-variants.{Free}
-use Rattle.records.specs.Slots.{slotOf, slotBytes, stateOf, sameState}
+use Rattle.records.specs.Slots.{slotBytes}
 use Rattle.records.specs.Journals.{recordFor}
 use Rattle.records.proofs.Slots.{length-slotBytes}
 use Rattle.chain.proofs.Chains.{few}
 use Rattle.accept.specs.declared.Verdict.{Verdict}
 use Rattle.accept.specs.declared.Verdict.the-variants as verdicts
-use Rattle.accept.specs.Rules.{slotAt}
 use Rattle.accept.specs.Judging.{versionOf}
 use Rattle.accept.specs.Verdicts.{verdict}
-use Rattle.accept.proofs.Accepting.{Holds}
 use Rattle.accept.proofs.Telling.{and-true}
-use Rattle.accept.proofs.Writes.{pass-of}
 use Rattle.journal.specs.declared.Look.{Look}
 use Rattle.journal.specs.declared.Look.the-variants.{Malformed, Held, New}
 use Rattle.journal.specs.Journals.{recordIn, slotUsed, holder, isFull, appended, looked}
@@ -185,10 +179,6 @@ module _ (m : List ℕ) (used : ℕ) (j : List ℕ) (e : ℕ) where
       go : (v : Verdict) → verdict m used ≡ v → afterCheck m j e v ≡ starts.New n r f → (verdict m used ≡ verdicts.Accepted n) × (looked j m n e ≡ New r) × (f ≡ freeSlot m n)
       go (verdicts.Refused k p) h g = no-start (cc)
       go (verdicts.Accepted k) h g = let x = look-new k n r f (looked j m k e) g in rw (← x .0) (h, x .1, x .2)
-
--- an accepted map has at most as many index blocks as the tables of an edit have room for
-pub blocks-most : {m : List ℕ} {used n : ℕ} → Holds m used n → n ≤ 2728
-blocks-most h = omega (arith, few (pass-of h) (omega arith), h .limit)
 
 -- the slot of a record that holds a number is there
 pub held-there : (jn m : List ℕ) (n e kind slot : ℕ) → looked jn m n e ≡ Held kind slot → slot < 256 * n

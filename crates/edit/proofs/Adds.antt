@@ -1,15 +1,13 @@
 -- The map after an add: accepted, with the new slot good, and every other slot as it was. Assumes nothing.
-use Prim.Native.Nat.{ℕ, suc, _+_, _-_, _*_, _^_, _≤_, _<_}
-use mathlib.Core.Bool.{Bool, true, false}
-use mathlib.Core.Path.{_≡_, refl, sym, ap, _∙_}
-use mathlib.Core.Logic.{_⊎_, inl, inr, ⊎-elim}
+use Prim.Native.Nat.{ℕ, _+_, _-_, _*_, _≤_, _<_}
+use mathlib.Core.Bool.{false}
+use mathlib.Core.Path.{_≡_, ap, _∙_}
+use mathlib.Core.Logic.{⊎-elim}
 use mathlib.Core.List.{List}
 use native.Mathlib.Decide.{ℕ-discrete}
 use native.Mathlib.Omega.{arith}
-use lib.Dec.{ltb}
 use lib.ListN.{length, getD}
 use lib.Seq.{sets, length-sets}
-use borrow.Author.Tests.{ltb-true, ltb-false, eq-eqb}
 use Rattle.numbers.specs.Bytes.{Bytes, bytesOf}
 use Rattle.numbers.specs.Ranges.{share}
 use Rattle.numbers.proofs.Bytes.{getD-sets-low, getD-sets-high, getD-sets-in, length-bytesOf}
@@ -17,19 +15,19 @@ use Rattle.numbers.proofs.Below.{any-none}
 use Rattle.numbers.proofs.Coordinates.{lt-or-ge}
 use Rattle.numbers.proofs.Ranges.{share-before, share-after}
 use Rattle.records.specs.declared.Slot.{Slot}
-use Rattle.records.specs.Slots.{slotOf, slotBytes, stateOf}
+use Rattle.records.specs.Slots.{slotOf, slotBytes}
 use Rattle.records.proofs.Slots.{SlotFits, length-slotBytes, slot-back}
 use Rattle.chain.specs.Chains.{block, meetsBlock}
 use Rattle.chain.specs.Chains as chains
 use Rattle.accept.specs.Rules.{slotAt, touches}
-use Rattle.accept.specs.Judging.{versionOf, isLive, badSlot}
+use Rattle.accept.specs.Judging.{versionOf, badSlot}
 use Rattle.accept.proofs.Accepting.{Holds}
-use Rattle.accept.proofs.Telling.{GoodSlot, bad-good, bad-dead}
+use Rattle.accept.proofs.Telling.{bad-good, bad-dead}
 use Rattle.accept.proofs.Frame.{Change, touch-same, slot-kept, version-same, change-accepted, change-trans}
 use Rattle.accept.proofs.Writes.{pass-of, slot-lies, link-low, store-change, store-place, store-other, grow-change, grow-place, grow-slot, grow-link, block-change, block-place, block-old, block-new}
-use Rattle.edit.specs.Slots.{slotIn, freeSlot}
-use Rattle.edit.specs.Objects.{slotFor, blockFor}
-use Rattle.edit.specs.Edits.{isFree, newLength, slotAdded, inFree, inBlock, addedMap}
+use Rattle.edit.specs.Slots.{slotIn}
+use Rattle.edit.specs.Objects.{blockFor}
+use Rattle.edit.specs.Edits.{slotAdded}
 use Rattle.edit.proofs.Syms.{state-empty}
 use Rattle.edit.proofs.Objects.{Offered, slot-fits, slot-added, block-full, block-ends, block-first, block-others}
 

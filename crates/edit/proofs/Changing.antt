@@ -48,6 +48,7 @@ use Rattle.edit.proofs.Syms.{len-some, has-tells, accepted-good}
 -- ---- the tables of an accepted map
 
 module _ {m : List ℕ} {used n : ℕ} (h : Holds m used n) where
+  -- an accepted map has at most as many index blocks as the tables of an edit have room for
   pub few-blocks : n ≤ 2728
   few-blocks = omega (arith, few (pass-of h) (omega arith), h .limit)
 

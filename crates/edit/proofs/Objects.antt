@@ -1,19 +1,18 @@
 -- The laws of an offered object and of the slot that it gets: every field fits, its Len says its pairs and its bytes, and with the object's bytes in place the
 -- slot is good. Assumes nothing.
-use Prim.Native.Nat.{ℕ, _+_, _-_, _*_, _/_, _%_, _^_, _≤_, _<_}
-use mathlib.Core.Bool.{Bool, true, false, not, cond, _&&_}
+use Prim.Native.Nat.{ℕ, _+_, _-_, _*_, _%_, _^_, _≤_, _<_}
+use mathlib.Core.Bool.{Bool, true, false, not, cond}
 use mathlib.Core.Path.{_≡_, refl, sym, ap, _∙_}
 use mathlib.Core.List.{List, _++_}
-use native.Mathlib.Nat.{add-assoc, zero-add}
+use native.Mathlib.Nat.{zero-add}
 use native.Mathlib.Omega.{arith}
 use lib.Dec.{eqb, leb}
 use lib.ListN.{length, getD, drop, replicate, length-append, length-replicate, List·getD-append}
 use lib.Seq.{getD-drop, getD-append-add}
-use borrow.Author.Tests.{leb-true, le-leb, eqb-true, eq-eqb, ne-eqb, not-true, eqb-false}
-use Rattle.numbers.specs.Bytes.{Bytes, leAt, u16At, u32At}
+use borrow.Author.Tests.{leb-true, le-leb, eqb-true, eq-eqb, not-true, eqb-false}
+use Rattle.numbers.specs.Bytes.{Bytes, leAt, u32At}
 use Rattle.numbers.specs.Coordinates.{unmarked}
 use Rattle.numbers.proofs.Bytes.{leAt-cong, leAt-lt}
-use Rattle.numbers.proofs.Below.{never}
 use Rattle.records.specs.declared.Slot.{Slot}
 use Rattle.records.specs.Slots.{slotOf, slotBytes, lenGood, pairsOf, bytesIn, lenOf}
 use Rattle.records.specs.Objects.{objectOf, typeGood, xOf, yOf, coverTo, rectangleOf, withoutMarks}

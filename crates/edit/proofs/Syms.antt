@@ -1,16 +1,16 @@
 -- A change of one slot's Sym: what the slot is afterwards, that the map is accepted, and that reinstating can be judged by the one slot. Assumes nothing.
 use Prim.Native.Nat.{ℕ, _+_, _*_, _^_, _≤_, _<_}
-use mathlib.Core.Bool.{Bool, true, false, _&&_}
-use mathlib.Core.Path.{_≡_, refl, sym, ap, _∙_}
-use mathlib.Core.Logic.{_⊎_, inl, inr, ⊎-elim}
+use mathlib.Core.Bool.{Bool, true, false}
+use mathlib.Core.Path.{_≡_, refl, sym, _∙_}
+use mathlib.Core.Logic.{_⊎_, inr, ⊎-elim}
 use mathlib.Core.List.{List}
 use native.Mathlib.Decide.{ℕ-discrete}
 use native.Mathlib.Nat.{add-zero}
 use native.Mathlib.Omega.{arith}
 use lib.Dec.{eqb, ltb}
-use lib.ListN.{length, getD}
+use lib.ListN.{length}
 use lib.Seq.{sets}
-use borrow.Author.Tests.{ltb-true, lt-ltb, eq-eqb, ne-eqb, eqb-true}
+use borrow.Author.Tests.{ltb-true, eq-eqb, ne-eqb}
 use Rattle.numbers.specs.Bytes.{leAt, bytesOf}
 use Rattle.numbers.proofs.Bytes.{leAt-sets-low, leAt-sets-in, leAt-bytesOf, length-bytesOf}
 use Rattle.numbers.proofs.Below.{never}
@@ -19,7 +19,6 @@ use Rattle.records.specs.declared.State.{State}
 use Rattle.records.specs.declared.State.the-variants.{Free, Erased, Live}
 use Rattle.records.specs.Slots.{slotOf, stateOf, sameState}
 use Rattle.records.proofs.Slots.{slot-ext}
-use Rattle.chain.specs.declared.Walk.the-variants.{Blocks}
 use Rattle.accept.specs.declared.Verdict.{Verdict}
 use Rattle.accept.specs.declared.Verdict.the-variants.{Accepted, Refused}
 use Rattle.accept.specs.Rules.{slotAt, touches}
@@ -27,9 +26,9 @@ use Rattle.accept.specs.Judging.{versionOf, slotGood, isLive, badSlot}
 use Rattle.accept.specs.Verdicts.{verdict}
 use Rattle.accept.proofs.Accepting.{Holds, accepted-is, accepted-tells, blocks-one}
 use Rattle.accept.proofs.Telling.{and-true, GoodSlot, slot-is, slot-tells, bad-good, bad-dead, bad-tells}
-use Rattle.accept.proofs.Frame.{Change, touch-same, good-kept, slot-kept, version-same, change-accepted, change-back}
+use Rattle.accept.proofs.Frame.{Change, good-kept, slot-kept, version-same, change-accepted, change-back}
 use Rattle.accept.proofs.Writes.{slot-lies, store-change, store-place, store-other}
-use Rattle.edit.specs.Slots.{slotIn, hasState, resym, withSym, objectSym, isAccepted, canReinstate}
+use Rattle.edit.specs.Slots.{slotIn, hasState, resym, withSym, isAccepted}
 
 -- ---- states
 

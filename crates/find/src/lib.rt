@@ -11,7 +11,7 @@ use records::read_slot;
 use records::same_state;
 use records::window_good;
 ghost use mathlib.Core.Path.{_≡_};
-ghost use Prim.Native.Nat.{ℕ, _+_, _*_, _≤_, _<_};
+ghost use Prim.Native.Nat.{_+_, _*_, _≤_, _<_};
 ghost use lib.ListN.{length};
 ghost use lib.Seq.{sets};
 ghost use Rattle.records.specs.Sizes.{headerSize, slotSize, mapLimit};

@@ -1,11 +1,10 @@
 -- The laws of `leAt` and `bytesOf`, over the number of bytes, and of `sets`, a run of stores.
 -- Assumes nothing.
-use mathlib.Core.Path.{_≡_, refl, sym, ap, _∙_, subst}
+use mathlib.Core.Path.{_≡_, refl, ap, _∙_}
 use mathlib.Core.List.{List, [], _∷_, _++_, append-assoc}
 use mathlib.Core.Logic.{_⊎_, inl, inr}
-use Prim.Native.Nat.{ℕ, zero, suc, _+_, _-_, _*_, _/_, _%_, _^_, _≤_, _<_, suc-le-suc, zero-le}
-use native.Mathlib.Nat.{add-zero, zero-add, add-suc, suc-add, add-assoc, pow-succ', le-of-suc-le-suc, not-suc-le-zero, mod-lt, div-lt-iff-lt-mul, mul-assoc}
-use native.Mathlib.Numerals.{add-one}
+use Prim.Native.Nat.{ℕ, zero, suc, _+_, _*_, _/_, _%_, _^_, _≤_, _<_}
+use native.Mathlib.Nat.{add-zero, zero-add, add-suc, suc-add, add-assoc, pow-succ', not-suc-le-zero, mul-assoc}
 use native.Mathlib.Decide.{ℕ-discrete}
 use native.Mathlib.Omega.{arith}
 use lib.Seq.{getD-drop, getD-take, getD-append-add, sets, sets-eq, getD-set-other, getD-set-same, drop-set-add, take-set-lt, drop-set-lt, take-set-le}

@@ -4,7 +4,7 @@ use mathlib.Core.Path.{_≡_, refl, sym, ap, _∙_}
 use mathlib.Core.Logic.{_⊎_, inl, inr, ⊎-elim}
 use mathlib.Core.Bool.{Bool, true, false, cond}
 use Prim.Native.Nat.{ℕ, zero, suc, _+_, _-_, _*_, _/_, _%_, _^_, _≤_, _<_}
-use mathlib.Core.List.{List, [], _∷_, map}
+use mathlib.Core.List.{[], _∷_, map}
 use native.Mathlib.Nat.{zero-add, mod-lt, div-add-mod', suc-mul}
 use native.Mathlib.Omega.{arith}
 use lib.Dec.{ltb, leb}
@@ -16,7 +16,7 @@ use mir.ValLaws.{sfits-le}
 use mir.Facts.{toZ-ofZ, sfits-toZ}
 use borrow.Author.Needs.{sfits-of}
 use borrow.Author.Tests.{lt-ltb, le-ltb, le-leb, lt-leb, leb-true, leb-false, ltb-true, ltb-false}
-use Rattle.numbers.specs.Coordinates.{signed, signed16, signed32, floorDiv, valueOf, unmarked, signFlipped}
+use Rattle.numbers.specs.Coordinates.{signed, signed32, floorDiv, valueOf, unmarked, signFlipped}
 
 -- a number is below a bound, or it is not
 pub lt-or-ge : (n m : ℕ) → (n < m) ⊎ (m ≤ n)

@@ -1,6 +1,6 @@
 -- Edit by edit, contents as bytes, contents that stay, and the footbridge. Assumes nothing.
-use Prim.Native.Nat.{ℕ, _+_, _*_, _^_, _≤_, _<_}
-use mathlib.Core.Bool.{Bool, true, false, not, _&&_}
+use Prim.Native.Nat.{ℕ, _*_, _<_}
+use mathlib.Core.Bool.{true}
 use mathlib.Core.Path.{_≡_, refl, sym, ap, _∙_}
 use mathlib.Core.Logic.{_⊎_, inl, inr, ⊎-elim}
 use mathlib.Core.List.{List, [], _∷_}
@@ -8,38 +8,36 @@ use native.Mathlib.Decide.{ℕ-discrete}
 use native.Mathlib.Nat.{add-zero}
 use native.Mathlib.Omega.{arith}
 use lib.Dec.{eqb}
-use lib.ListN.{length, take, drop}
+use lib.ListN.{take, drop}
 use borrow.Author.Tests.{eqb-true, eq-eqb, ne-eqb}
-use Rattle.numbers.specs.Bytes.{Bytes, u16At}
+use Rattle.numbers.specs.Bytes.{u16At}
 use Rattle.numbers.proofs.Bytes.{leAt-drop}
 use Rattle.numbers.proofs.Below.{never}
 use Rattle.records.specs.declared.Slot.{Slot}
 use Rattle.records.specs.declared.State.the-variants.{Free, Live}
-use Rattle.records.specs.declared.JournalRecord.{JournalRecord}
 use Rattle.records.specs.Slots.{slotBytes, stateOf, bytesIn}
-use Rattle.records.specs.Objects.{objectOf, typeGood}
+use Rattle.records.specs.Objects.{objectOf}
 use Rattle.records.specs.Journals.{recordFor}
 use Rattle.accept.specs.Rules.{slotAt, touches}
 use Rattle.accept.specs.Judging.{versionOf, headerFits}
-use Rattle.accept.specs.Verdicts.{verdict}
 use Rattle.accept.specs.declared.Verdict.the-variants as verdicts
-use Rattle.accept.proofs.Accepting.{Holds, accepted-tells, accepted-is}
+use Rattle.accept.proofs.Accepting.{Holds, accepted-is}
 use Rattle.accept.proofs.Telling.{and-true, GoodSlot}
 use Rattle.accept.proofs.Frame.{good-kept, version-same}
 use Rattle.accept.proofs.Writes.{slot-lies}
-use Rattle.journal.specs.Journals.{looked, isHeld, holder, recordIn, wellFormed}
-use Rattle.journal.proofs.Journals.{room-of, appended-new, appended-holds, appended-holder, held-tells}
+use Rattle.journal.specs.Journals.{looked}
+use Rattle.journal.proofs.Journals.{room-of, appended-new, appended-holds, appended-holder}
 use Rattle.journal.proofs.Records.{not-full, shape-tells}
-use Rattle.edit.specs.declared.Answer.the-variants.{Done, Before}
+use Rattle.edit.specs.declared.Answer.the-variants.{Before}
 use Rattle.edit.specs.Slots.{slotIn, hasState, resym, objectSym}
-use Rattle.edit.specs.Edits.{startOf, afterCheck, afterLook, repeatChange, changed, slotAdded}
+use Rattle.edit.specs.Edits.{startOf, repeatChange, changed}
 use Rattle.edit.proofs.Syms.{has-tells, len-some, same-live, state-unmarked}
 use Rattle.promise.specs.Runs.{State, Call, add, remove, reinstate, search, edited, outcome, step, run, saysDone, isDone, recordOf, blocksIn, blocksOf, isLiveIn, Content, contentOf, Good, Sent, AllSent}
-use Rattle.promise.specs.Promises.{Own, ByOne, EditByEdit, SlotBytes, slotPart, objectPart, ContentIsBytes, ContentStays, Removes, NoneRemoves, BridgeStays, Footbridge}
+use Rattle.promise.specs.Promises.{Own, ByOne, EditByEdit, SlotBytes, slotPart, objectPart, ContentIsBytes, ContentStays, Removes, NoneRemoves, Footbridge}
 use Rattle.promise.proofs.Bytes.{part-slot}
 use Rattle.promise.proofs.Moves.{Moved}
 use Rattle.promise.proofs.Contents.{live-same, content-same, good-of, object-kept, removed-dead, erased-dead, reinstated-live, reinstated-content, free-dead, added-live, added-content}
-use Rattle.promise.proofs.Keeping.{Effect, Did, Idle, call-cases, did-good, step-good}
+use Rattle.promise.proofs.Keeping.{Did, Idle, call-cases, did-good, step-good}
 use Rattle.promise.proofs.Promises.{stays-good, nothing-else, Keeps, keeps-step, keeps-run, holds-of, blocks-of}
 
 -- ---- live slots, by the state's own number of blocks

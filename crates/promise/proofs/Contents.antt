@@ -1,25 +1,24 @@
 -- Live slots and their contents across one done call: the edit's own slot changes as the edit says, and every other is as it was. Assumes nothing.
-use Prim.Native.Nat.{ℕ, _+_, _-_, _*_, _^_, _≤_, _<_, min}
-use mathlib.Core.Bool.{Bool, true, false, not, cond, _&&_}
-use mathlib.Core.Path.{_≡_, refl, sym, ap, ap₂, _∙_}
-use mathlib.Core.Logic.{_⊎_, inl, inr, ⊎-elim}
+use Prim.Native.Nat.{ℕ, _+_, _*_, _≤_, _<_}
+use mathlib.Core.Bool.{true, false, not}
+use mathlib.Core.Path.{_≡_, refl, sym, ap, _∙_}
+use mathlib.Core.Logic.{⊎-elim}
 use mathlib.Core.List.{List}
-use native.Mathlib.Decide.{ℕ-discrete}
 use native.Mathlib.Omega.{arith}
-use lib.Dec.{eqb, ltb}
-use lib.ListN.{length, getD, take, drop, length-take, length-drop}
+use lib.Dec.{eqb}
+use lib.ListN.{length, getD, take, drop, length-drop}
 use lib.Seq.{getD-take, getD-drop, ext-getD, length-take-le}
-use borrow.Author.Tests.{ltb-true, ltb-false, lt-ltb, le-ltb, eq-eqb, ne-eqb, eqb-true, not-true, eqb-false}
-use Rattle.numbers.specs.Bytes.{Bytes, u16At}
+use borrow.Author.Tests.{lt-ltb, le-ltb, not-true, eqb-false}
+use Rattle.numbers.specs.Bytes.{Bytes}
 use Rattle.numbers.proofs.Below.{never}
 use Rattle.numbers.proofs.Coordinates.{lt-or-ge}
 use Rattle.records.specs.declared.Slot.{Slot}
 use Rattle.records.specs.declared.State.{State}
 use Rattle.records.specs.declared.State.the-variants.{Free, Erased, Live}
-use Rattle.records.specs.Slots.{slotOf, stateOf, sameState, bytesIn, lenOf}
+use Rattle.records.specs.Slots.{slotOf, stateOf, sameState, bytesIn}
 use Rattle.records.specs.Objects.{objectOf}
 use Rattle.accept.specs.Rules.{slotAt, touches}
-use Rattle.accept.specs.Judging.{versionOf, isLive, slotGood, headerFits}
+use Rattle.accept.specs.Judging.{versionOf, isLive}
 use Rattle.accept.specs.Verdicts.{verdict}
 use Rattle.accept.proofs.Accepting.{Holds}
 use Rattle.accept.proofs.Telling.{and-true, GoodSlot, slot-tells, bad-tells}
@@ -28,8 +27,8 @@ use Rattle.edit.specs.Slots.{slotIn, hasState, resym, withSym, objectSym, isAcc
 use Rattle.edit.specs.Objects.{pairsIn, slotFor, offeredGood}
 use Rattle.edit.specs.Edits.{slotAdded}
 use Rattle.edit.proofs.Syms.{has-tells, same-live, state-live, state-unmarked, state-empty, len-some, accepted-good}
-use Rattle.edit.proofs.Objects.{Offered, offered-tells, len-bytes, pairs-some}
-use Rattle.promise.specs.Runs.{Content, contentOf}
+use Rattle.edit.proofs.Objects.{Offered, offered-tells, len-bytes}
+use Rattle.promise.specs.Runs.{contentOf}
 use Rattle.promise.proofs.Moves.{Moved, object-sym-fits}
 
 -- ---- parts of two maps

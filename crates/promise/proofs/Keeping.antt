@@ -1,19 +1,17 @@
 -- A call keeps a good state good, and a done one has moved the map and appended its record. Assumes nothing.
 use Prim.Native.Nat.{ℕ, _+_, _*_, _^_, _≤_, _<_}
-use mathlib.Core.Bool.{Bool, true, false}
+use mathlib.Core.Bool.{true, false}
 use mathlib.Core.Path.{_≡_, refl, sym, ap, _∙_}
 use mathlib.Core.Logic.{_⊎_, inl, inr, ⊎-elim}
-use mathlib.Core.List.{List, [], _∷_, _++_}
+use mathlib.Core.List.{List}
 use native.Mathlib.Omega.{arith}
 use lib.ListN.{length, getD}
 use Rattle.numbers.specs.Bytes.{Bytes}
 use Rattle.numbers.proofs.Below.{never}
-use Rattle.records.specs.declared.JournalRecord.{JournalRecord}
 use Rattle.records.specs.declared.Window.{Window}
 use Rattle.records.specs.Journals.{recordFor, shapeGood}
 use Rattle.records.proofs.Journals.{RecordFits}
 use Rattle.accept.specs.declared.Verdict.the-variants as verdicts
-use Rattle.accept.specs.Verdicts.{verdict}
 use Rattle.accept.proofs.Accepting.{Holds, accepted-tells, accepted-is}
 use Rattle.accept.proofs.Writes.{pass-of}
 use Rattle.chain.proofs.Chains.{few}

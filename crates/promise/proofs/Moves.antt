@@ -1,35 +1,33 @@
 -- What a done edit does to an accepted map, for the three edits alike: `Moved` says of slot s, the edit's own, that it is in use afterwards, and of everything
 -- else that it is as it was. Assumes nothing.
 use Prim.Native.Nat.{ℕ, _+_, _*_, _^_, _≤_, _<_}
-use mathlib.Core.Bool.{Bool, true, false, not, cond, _&&_}
+use mathlib.Core.Bool.{Bool, true, false, not, cond}
 use mathlib.Core.Path.{_≡_, refl, sym, ap, _∙_}
-use mathlib.Core.Logic.{_⊎_, inl, inr, ⊎-elim}
+use mathlib.Core.Logic.{inl}
 use mathlib.Core.List.{List}
 use native.Mathlib.Decide.{ℕ-discrete}
 use native.Mathlib.Omega.{arith}
 use lib.Dec.{eqb, ltb}
 use lib.ListN.{length}
-use borrow.Author.Tests.{ltb-true, ltb-false, lt-ltb, eqb-true, eqb-false, ne-eqb, not-true, not-false}
+use borrow.Author.Tests.{ltb-true, ltb-false, lt-ltb, eqb-true, eqb-false, ne-eqb, not-true}
 use Rattle.numbers.specs.Bytes.{Bytes}
 use Rattle.numbers.proofs.Bytes.{leAt-lt}
 use Rattle.numbers.specs.Below.{first}
 use Rattle.numbers.proofs.Below.{never, first-law}
-use Rattle.numbers.proofs.Coordinates.{lt-or-ge}
 use Rattle.records.specs.declared.Slot.{Slot}
-use Rattle.records.specs.declared.State.{State}
 use Rattle.records.specs.declared.State.the-variants.{Free, Erased, Live}
 use Rattle.records.specs.Slots.{slotOf, stateOf, sameState, lenOf}
 use Rattle.accept.specs.declared.Verdict.{Verdict}
 use Rattle.accept.specs.declared.Verdict.the-variants as verdicts
-use Rattle.accept.specs.Rules.{slotAt, touches}
-use Rattle.accept.specs.Judging.{versionOf, isLive}
+use Rattle.accept.specs.Rules.{slotAt}
+use Rattle.accept.specs.Judging.{versionOf}
 use Rattle.accept.specs.Verdicts.{verdict}
-use Rattle.accept.proofs.Accepting.{Holds, accepted-tells, accepted-is, blocks-one}
+use Rattle.accept.proofs.Accepting.{Holds, accepted-tells, blocks-one}
 use Rattle.accept.proofs.Telling.{and-true}
 use Rattle.accept.proofs.Frame.{Change}
 use Rattle.journal.specs.Journals.{slotUsed}
 use Rattle.journal.proofs.Journals.{KeepsUse}
-use Rattle.edit.specs.Slots.{slotIn, hasState, resym, withSym, objectSym, isAccepted, canReinstate, allowedFor, symFor, freeSlot}
+use Rattle.edit.specs.Slots.{slotIn, hasState, resym, withSym, objectSym, isAccepted, canReinstate, freeSlot}
 use Rattle.edit.specs.Objects.{pairsIn, slotFor, offeredGood}
 use Rattle.edit.specs.Edits.{isFree, slotAdded, inFree, inBlock, newLength, addedMap}
 use Rattle.edit.proofs.Syms.{has-tells, len-some, sym-change, sym-place, sym-other, sym-slot, sym-holds}

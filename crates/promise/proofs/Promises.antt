@@ -1,15 +1,13 @@
 -- The promises over runs, proved. Each name is that of its statement in specs/Promises.antt, in small letters. Assumes nothing.
-use Prim.Native.Nat.{ℕ, zero, suc, _+_, _-_, _*_, _/_, _≤_, _<_}
+use Prim.Native.Nat.{ℕ, zero, suc, _+_, _*_, _/_, _≤_, _<_}
 use mathlib.Core.Bool.{Bool, true, false, cond}
 use mathlib.Core.Path.{_≡_, refl, sym, ap, _∙_}
-use mathlib.Core.Logic.{_⊎_, inl, inr, ⊎-elim}
+use mathlib.Core.Logic.{⊎-elim}
 use mathlib.Core.List.{List, [], _∷_, _++_, map, append-assoc, append-nil}
 use native.Mathlib.Omega.{arith}
 use lib.ListN.{length, getD}
-use Rattle.numbers.specs.Ranges.{share}
 use Rattle.numbers.proofs.Below.{never}
 use Rattle.records.specs.declared.JournalRecord.{JournalRecord}
-use Rattle.records.specs.Sizes.{journalRecordSize}
 use Rattle.records.specs.Headers.{indexHead}
 use Rattle.chain.specs.Chains.{block}
 use Rattle.chain.proofs.Chains.{disjoint, few, walked-end}
@@ -21,12 +19,11 @@ use Rattle.find.specs.Searches.{In}
 use Rattle.journal.specs.Journals.{isHeld, holder, recordIn, recordsOf}
 use Rattle.journal.proofs.Records.{length-recordsOf}
 use Rattle.journal.proofs.Journals.{well-formed-tells, room-of, recordsOf-appended, length-appended, appended-keeps, appended-record-kept, appended-holds}
-use Rattle.edit.specs.declared.Answer.the-variants.{Done}
-use Rattle.promise.specs.Runs.{State, Call, add, remove, reinstate, search, outcome, step, run, slotSaid, isDone, doneIn, recordsIn, recordOf, blocksIn, blocksOf, appliedAll, applied, Good, Sent, AllSent}
+use Rattle.promise.specs.Runs.{State, Call, add, remove, reinstate, search, outcome, step, run, slotSaid, isDone, doneIn, recordsIn, recordOf, blocksIn, blocksOf, appliedAll, Good, Sent, AllSent}
 use Rattle.promise.specs.Promises.{StaysGood, Ends, IndexEnds, SlotNumbersStay, mapOf, AppliedOnce, JournalGrows, RestZero, editNumber, NeverActsAgain, numbersIn, numbersOf, Once, NumbersOnce, NothingElse}
 use Rattle.promise.proofs.Bytes.{zero-record}
 use Rattle.promise.proofs.Steps.{change-idle, add-idle}
-use Rattle.promise.proofs.Keeping.{Did, Idle, idle-of, idle-search, call-cases, did-good, step-good}
+use Rattle.promise.proofs.Keeping.{Did, Idle, idle-of, idle-search, call-cases, step-good}
 
 pub stays-good : StaysGood
 unfolding run

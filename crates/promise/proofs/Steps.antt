@@ -1,34 +1,29 @@
 -- One call: what it does to a good state. Assumes nothing.
-use Prim.Native.Nat.{ℕ, _+_, _*_, _^_, _≤_, _<_}
-use mathlib.Core.Bool.{Bool, true, false, not, cond, _&&_}
+use Prim.Native.Nat.{ℕ, _≤_}
+use mathlib.Core.Bool.{Bool, true, false, cond, _&&_}
 use mathlib.Core.Path.{_≡_, refl, sym, ap, _∙_}
 use mathlib.Core.Logic.{_⊎_, inl, inr, ⊎-elim}
-use mathlib.Core.List.{List, [], _∷_, _++_}
-use native.Mathlib.Omega.{arith}
-use lib.Dec.{eqb, leb, ltb}
-use lib.ListN.{length, getD}
-use Rattle.numbers.specs.Bytes.{Bytes}
+use mathlib.Core.List.{List}
+use lib.Dec.{eqb, leb}
+use lib.ListN.{length}
 use Rattle.numbers.proofs.Below.{never}
-use Rattle.records.specs.declared.JournalRecord.{JournalRecord}
 use Rattle.records.specs.Journals.{recordFor}
 use Rattle.accept.specs.declared.Verdict.{Verdict}
 use Rattle.accept.specs.declared.Verdict.the-variants as verdicts
 use Rattle.accept.specs.Judging.{versionOf}
 use Rattle.accept.specs.Verdicts.{verdict}
-use Rattle.accept.proofs.Accepting.{Holds, accepted-tells, accepted-is}
 use Rattle.accept.proofs.Telling.{and-true}
 use borrow.Author.Tests.{leb-true, le-leb, ne-eqb}
 use Rattle.journal.specs.declared.Look.{Look}
 use Rattle.journal.specs.declared.Look.the-variants.{Malformed, Held, New}
-use Rattle.journal.specs.Journals.{looked, isFull, isHeld, holder, recordIn, appended, wellFormed}
-use Rattle.journal.proofs.Journals.{looked-held, looked-new}
+use Rattle.journal.specs.Journals.{looked, isFull, isHeld, appended, wellFormed}
+use Rattle.journal.proofs.Journals.{looked-new}
 use Rattle.edit.specs.declared.Answer.{Answer}
 use Rattle.edit.specs.declared.Answer.the-variants.{Done, Before, Refused}
-use Rattle.edit.specs.declared.Start.{Start}
 use Rattle.edit.specs.declared.Start.the-variants as starts
 use Rattle.edit.specs.Slots.{slotIn, withSym, allowedFor, symFor, freeSlot}
 use Rattle.edit.specs.Objects.{offeredGood, isObject}
-use Rattle.edit.specs.Edits.{Outcome, saying, after, afterCheck, afterLook, startOf, repeatChange, freshChange, changed, newLength, addedMap, repeatAdd, freshAdd, added}
+use Rattle.edit.specs.Edits.{Outcome, saying, after, afterLook, startOf, repeatChange, freshChange, changed, newLength, addedMap, repeatAdd, freshAdd, added}
 use Rattle.promise.specs.Runs.{edited, saysDone}
 
 -- ---- an edit's outcome by cases

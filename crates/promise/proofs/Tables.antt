@@ -1,20 +1,18 @@
 -- The worked examples, by computation; the length after the second add by the law of an add, since slot 0 is then taken and slot 1 free; and what the two adds
 -- answer, since the journal stays well formed. Assumes nothing.
-use Prim.Native.Nat.{ℕ, _+_, _*_, _≤_, _<_}
-use mathlib.Core.Bool.{Bool, true, false, cond}
-use mathlib.Core.Path.{_≡_, refl, sym, ap, _∙_}
+use Prim.Native.Nat.{ℕ, _+_, _*_, _≤_}
+use mathlib.Core.Bool.{true, false}
+use mathlib.Core.Path.{_≡_, refl}
 use mathlib.Core.List.{List, [], _∷_, _++_}
 use native.Mathlib.Omega.{arith}
-use lib.ListN.{length, getD}
+use lib.ListN.{length}
 use lib.Seq.{length-sets}
-use borrow.Author.Tests.{lt-ltb, le-leb}
+use borrow.Author.Tests.{le-leb}
 use Rattle.numbers.specs.Bytes.{Bytes, leAt, bytesOf}
 use Rattle.numbers.specs.Below.{any, first}
 use Rattle.numbers.specs.Coordinates.{signed, valueOf, unmarked}
-use Rattle.numbers.specs.Ranges.{share, within}
-use Rattle.numbers.proofs.Below.{first-is, never}
-use Rattle.records.specs.declared.Slot.{Slot}
-use Rattle.records.specs.declared.State.the-variants.{Free, Live}
+use Rattle.numbers.proofs.Below.{first-is}
+use Rattle.records.specs.declared.State.the-variants.{Free}
 use Rattle.records.specs.declared.JournalRecord.{JournalRecord}
 use Rattle.records.specs.Journals.{recordOf, recordBytes, recordFor, isUnused, shapeGood, kindGood}
 use Rattle.records.specs.Headers.{headerOf, pairGood}
@@ -22,7 +20,7 @@ use Rattle.records.proofs.Journals.{RecordFits}
 use Rattle.records.specs.Slots.{stateOf, sameState, lenOf}
 use Rattle.records.specs.Objects.{objectOf, typeGood, xOf, yOf, coverTo, withoutMarks, rectangleOf}
 use Rattle.records.specs.Windows.{meetsWindow}
-use Rattle.chain.specs.Chains.{place, block, meetsBlock, badLink, stops, taken, walked}
+use Rattle.chain.specs.Chains.{place, block, stops, taken, walked}
 use Rattle.accept.specs.declared.Verdict.the-variants.{Accepted}
 use Rattle.accept.specs.Judging.{versionOf, lengthGood, partGood}
 use Rattle.accept.specs.Verdicts.{cellsJudged, fieldsJudged, headerJudged, entriesJudged, symbolsJudged, slotsJudged, afterIndex, verdict}
@@ -33,7 +31,7 @@ use Rattle.journal.proofs.Journals.{appended-well}
 use Rattle.edit.specs.declared.Answer.the-variants.{Done}
 use Rattle.edit.specs.Slots.{slotIn, freeSlot}
 use Rattle.edit.specs.Objects.{offeredGood, slotFor}
-use Rattle.edit.specs.Edits.{isFree, newLength, addedMap, inBlock, added}
+use Rattle.edit.specs.Edits.{newLength, addedMap, inBlock, added}
 use Rattle.edit.proofs.Adds.{Grown}
 use Rattle.promise.specs.Tables.{empty7, pointObject, pointSlot, emptyJournal, firstAdd, secondAdd, Table}
 use Rattle.promise.proofs.Bytes.{All, then, bytes-cons, bytes-nil, zero-bytes}

@@ -5,10 +5,10 @@
 --     firstAdd        the outcome of adding the object to the empty map, in a buffer that holds `rest` behind it
 --     secondAdd       the outcome of adding it once more
 use Prim.Native.Nat.{ℕ, _≤_}
-use mathlib.Core.Bool.{Bool, true, false}
+use mathlib.Core.Bool.{true, false}
 use mathlib.Core.List.{List, [], _∷_, _++_, map}
 use mathlib.Core.Path.{_≡_}
-use lib.IntN.{ℤ, pos, negsuc}
+use lib.IntN.{pos, negsuc}
 use lib.ListN.{length, replicate}
 use Rattle.numbers.specs.Coordinates.{valueOf}
 use Rattle.records.specs.declared.Slot.{Slot}

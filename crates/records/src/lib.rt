@@ -10,8 +10,8 @@ use numbers::value_at_least;
 use numbers::value_at_most;
 use numbers::without_marks;
 ghost use mathlib.Core.Path.{_≡_};
-ghost use mathlib.Core.Bool.{true};
-ghost use Prim.Native.Nat.{ℕ, _+_, _-_, _*_, _≤_, _<_};
+ghost use mathlib.Core.Bool.{true, cond};
+ghost use Prim.Native.Nat.{_+_, _-_, _*_, _≤_, _<_};
 ghost use lib.ListN.{length};
 ghost use lib.Seq.{sets};
 ghost use Rattle.numbers.specs.Bytes.{u16At};
@@ -278,14 +278,20 @@ pub fn pairs_of(version: u16, len: u16) -> usize
     (len as usize - ObjectHeader::SIZE) / ObjectHeader::PAIR
 }
 
-// The bytes of a slot's object.
+// The first of two numbers, or the second.
+fn either(is: bool, a: usize, b: usize) -> usize
+    ensures { λ r. ⌜ r ≡ cond is a b ⌝ }
+{
+    if is { a } else { b }
+}
+
+// The bytes of a slot's object: those that Len leaves out, and those that it counts. Nothing but two numbers hangs on the version, so that in a loop over
+// slots there is no branch on it.
 pub fn bytes_in(version: u16, len: u16) -> usize
     ensures { λ r. ⌜ r ≡ bytesIn version len ⌝ }
 {
-    if version == 8 {
-        return ObjectHeader::SIZE + ObjectHeader::PAIR * (len as usize);
-    }
-    len as usize
+    let pairs = version == 8;
+    either(pairs, ObjectHeader::SIZE, 0) + either(pairs, ObjectHeader::PAIR, 1) * (len as usize)
 }
 
 // Whether an object's bytes lie in the range that objects have: room for one pair at least, and for as many as a Len may say in 8 at most.

@@ -7,7 +7,7 @@ ghost use Rattle.accept.specs.Verdicts.{verdict};
 ghost use Rattle.accept.specs.Verdicts as verdicts;
 ghost use Rattle.find.specs.Searches.{answerOf, listAfter, countOf, blocksOf};
 ghost use Rattle.find.specs.Searches as searches;
-ghost use Rattle.edit.specs.Edits.{added, removed, reinstated, numberOf, placeOf, beforeOf, slotNo, lengthOf};
+ghost use Rattle.edit.specs.Edits.{added, removed, reinstated, numberOf, placeOf};
 ghost use Rattle.taffrail.specs.Calls.{windowFrom, Wrote};
 
 // The check.

@@ -1,39 +1,26 @@
--- `accept::bad_slot` meets its contract: a slot with no Len is free, one with no Sym is erased, and of a live one the test is asked. Assumes nothing.
+-- `accept::bad_slot` meets its contract: a slot with no Sym is erased, and of a live one the test is asked. Assumes nothing.
 use mathlib.Core.Path.{sym, ap, _∙_}
 use mathlib.Core.Bool.{not}
 use borrow.Author.Needs.{needs}
 use denote.Ref.{now}
 use Rattle.records.specs.Sizes.{indexBlockSize}
 use Rattle.chain.specs.Tables.{endsMeet}
-use Rattle.accept.proofs.Slots.{fault-free, fault-erased, fault-live}
+use Rattle.accept.proofs.Slots.{fault-erased, fault-live}
 use Rattle.accept.proofs.bad_slot.Statement.{statement}
 use Rattle.accept.proofs.bad_slot.Tie as tie
 
 returns : tie.Need-returns
-returns c =
-    let k = c .before .before in
-    let a = k .before .before .before .args in
-    sym (fault-free (endsMeet indexBlockSize (now (a .index))) (now (a .m)) (a .used) (a .version) (a .at) (k .at .ensures) (c .if1 .taken))
+returns c at e =
+    let s = c .before .before .before .before in
+    let a = s .args in
+    sym (fault-erased (endsMeet indexBlockSize (now (a .index))) (now (a .m)) (a .used) (a .version) at e (s .pre .4) (c .if1 .taken))
 
 returns-2 : tie.Need-returns-2
-returns-2 c =
-    let k = c .before .before .before .before in
-    let a = k .before .before .before .args in
-    sym (fault-erased (endsMeet indexBlockSize (now (a .index))) (now (a .m)) (a .used) (a .version) (a .at) (k .at .ensures) (c .before .before .if1 .left) (c .if2 .taken))
-
-returns-3 : tie.Need-returns-3
-returns-3 c =
-    let k = c .before .before .before .before .before in
-    let a = k .before .before .before .args in
+returns-2 c at e =
+    let s = c .before .before .before .before .before in
+    let a = s .args in
     ap not (c .slot-good .ensures)
-    ∙ sym (fault-live (endsMeet indexBlockSize (now (a .index))) (now (a .m)) (a .used) (a .version) (a .at) (k .at .ensures) (c .before .before .before .if1 .left) (c .before .if2 .left))
+    ∙ sym (fault-live (endsMeet indexBlockSize (now (a .index))) (now (a .m)) (a .used) (a .version) at e (s .pre .4) (c .before .if1 .left))
 
 pub bad-slot-spec : {M : Type 1} → statement M
-bad-slot-spec =
-    tie.close
-    (tie.spec
-    (λ c κs. search needs)
-    returns
-    returns-2
-    (λ c κs. search needs)
-    returns-3)
+bad-slot-spec = tie.close (tie.spec returns (λ c κs. search needs) returns-2)

@@ -1,10 +1,9 @@
 -- `chain::fill` meets its contract. The loop's invariant: the first b entries are filled, and `last` is the end of the last block below b. Assumes nothing.
 use native.Mathlib.Omega.{arith}
-use Prim.Native.Nat.{ℕ, _+_, _-_, _≤_, _<_}
-use mathlib.Core.Path.{_≡_, refl, sym, ap, _∙_}
+use Prim.Native.Nat.{_+_, _-_, _≤_}
+use mathlib.Core.Path.{_≡_, refl, _∙_}
 use mathlib.Core.Logic.{⊎-elim}
 use lib.ListN.{length, length-set}
-use borrow.Author.Needs.{needs}
 use denote.Ref.{now}
 use Rattle.chain.specs.Tables.{lastBelow, endOf, Carried}
 use Rattle.chain.proofs.Filling.{carried-none, carried-more, last-none, last-full, last-empty}

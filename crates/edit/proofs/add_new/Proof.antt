@@ -13,9 +13,9 @@ use Rattle.journal.specs.Journals.{isFull}
 use Rattle.journal.proofs.Records.{not-full, next-bytes}
 use Rattle.edit.specs.Objects.{offeredGood}
 use Rattle.edit.specs.Edits.{newLength}
-use Rattle.edit.proofs.Changing.{said}
+use Rattle.edit.proofs.Changing.{few-blocks, said}
 use Rattle.accept.proofs.Slots.{free-most}
-use Rattle.edit.proofs.Adding.{blocks-most, offered-most, fresh-malformed, fresh-long, fresh-tight, fresh-full, fresh-done}
+use Rattle.edit.proofs.Adding.{offered-most, fresh-malformed, fresh-long, fresh-tight, fresh-full, fresh-done}
 use borrow.Author.Needs.{needs}
 use Rattle.edit.proofs.add_new.Statement.{statement}
 use Rattle.edit.proofs.add_new.Tie as tie
@@ -48,7 +48,7 @@ spare c = sym (c .before .is-full .ensures) ∙ c .if4 .left
 
 -- the slot's number is small
 small : (s : tie.Start) → s .args .s ≤ 698368
-small s = omega (arith, s .pre .4, free-most (now (s .args .map)) (s .args .n), blocks-most (holds s))
+small s = omega (arith, s .pre .4, free-most (now (s .args .map)) (s .args .n), few-blocks (holds s))
 
 -- ---- the refusals
 
@@ -62,7 +62,7 @@ new-length-requires : tie.Need-new-length-requires
 new-length-requires c κs =
     let s = c .before .before .before .before .before .before .before .before in
     let h = holds s in
-    (h .limit, omega (arith, offered-most (versionOf (now (s .args .map))) (now (s .args .o)) (good c)), omega (arith, blocks-most h))
+    (h .limit, omega (arith, offered-most (versionOf (now (s .args .map))) (now (s .args .o)) (good c)), omega (arith, few-blocks h))
 
 returns-2 : tie.Need-returns-2
 returns-2 c =

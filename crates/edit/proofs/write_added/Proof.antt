@@ -11,7 +11,8 @@ use Rattle.accept.proofs.Accepting.{Holds, accepted-tells}
 use Rattle.accept.proofs.Writes.{slot-lies, link-low}
 use Rattle.edit.specs.Slots.{freeSlot}
 use Rattle.edit.specs.Edits.{slotAdded, inFree, inBlock}
-use Rattle.edit.proofs.Adding.{length-free, length-block, added-free, added-block, blocks-most}
+use Rattle.edit.proofs.Adding.{length-free, length-block, added-free, added-block}
+use Rattle.edit.proofs.Changing.{few-blocks}
 use borrow.Author.Needs.{needs}
 use Rattle.edit.proofs.write_added.Statement.{statement}
 use Rattle.edit.proofs.write_added.Tie as tie
@@ -29,7 +30,7 @@ slot-for-requires : tie.Need-slot-for-requires
 slot-for-requires c κs = rw (c .u16-at .ensures) (c .before .before .before .before .before .pre .4)
 
 mul-if1 : tie.Need-mul-if1
-mul-if1 c = omega (arith, blocks-most (holds (c .before .before .before .before .before .before)))
+mul-if1 c = omega (arith, few-blocks (holds (c .before .before .before .before .before .before)))
 
 -- the slot that is written
 slot : (c : tie.After-slot-for) → let a = c .before .before .before .before .before .before .args in c .slot-for .result ≡ slotAdded (now (a .map)) (a .used) (now (a .o))

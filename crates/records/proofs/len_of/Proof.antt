@@ -1,5 +1,5 @@
 -- `records::len_of` meets its contract, by the version. Assumes nothing.
-use borrow.Author.Tests.{eq-eqb, ne-eqb, le-leb, lt-leb, lt-ltb, le-ltb}
+use borrow.Author.Tests.{eq-eqb, ne-eqb}
 use Rattle.records.specs.Slots.{lenOf}
 use borrow.Author.Needs.{needs}
 use Rattle.records.proofs.len_of.Statement.{statement}

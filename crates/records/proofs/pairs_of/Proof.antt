@@ -1,8 +1,6 @@
 -- `records::pairs_of` meets its contract, by the version. Assumes nothing.
-use borrow.Author.Tests.{eq-eqb, ne-eqb, le-leb, lt-leb, lt-ltb, le-ltb}
+use borrow.Author.Tests.{eq-eqb, ne-eqb}
 use native.Mathlib.Omega.{arith}
-use mathlib.Core.Path.{_≡_}
-use mathlib.Core.Bool.{true}
 use Rattle.records.proofs.Slots.{len-room}
 use Rattle.records.specs.Slots.{pairsOf}
 use Rattle.records.proofs.pairs_of.Statement.{statement}

@@ -1,5 +1,4 @@
 -- `records::size_good` meets its contract: read as signed, a number from 32,768 on is negative. Assumes nothing.
-use borrow.Author.Tests.{eq-eqb, ne-eqb, le-leb, lt-leb, lt-ltb, le-ltb}
 use mathlib.Core.Path.{sym}
 use Rattle.records.proofs.Symbols.{size-small, size-large}
 use Rattle.records.proofs.size_good.Statement.{statement}

@@ -1,5 +1,5 @@
 -- `records::type_good` meets its contract, test by test. Assumes nothing.
-use borrow.Author.Tests.{eq-eqb, ne-eqb, le-leb, lt-leb, lt-ltb, le-ltb}
+use borrow.Author.Tests.{le-leb, lt-leb}
 use Rattle.records.specs.Objects.{typeGood}
 use Rattle.records.proofs.type_good.Statement.{statement}
 use Rattle.records.proofs.type_good.Tie as tie

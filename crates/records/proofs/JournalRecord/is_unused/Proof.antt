@@ -1,5 +1,5 @@
 -- `records::JournalRecord::is_unused` meets its contract, test by test. Assumes nothing.
-use borrow.Author.Tests.{eq-eqb, ne-eqb, le-leb, lt-leb, lt-ltb, le-ltb}
+use borrow.Author.Tests.{eq-eqb, ne-eqb}
 use Rattle.records.specs.Journals.{isUnused}
 use Rattle.records.proofs.JournalRecord.is_unused.Statement.{statement}
 use Rattle.records.proofs.JournalRecord.is_unused.Tie as tie

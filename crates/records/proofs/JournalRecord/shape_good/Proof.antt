@@ -1,5 +1,5 @@
 -- `records::JournalRecord::shape_good` meets its contract, test by test. Assumes nothing.
-use borrow.Author.Tests.{eq-eqb, ne-eqb, le-leb, lt-leb, lt-ltb, le-ltb}
+use borrow.Author.Tests.{eq-eqb, ne-eqb, le-leb, lt-leb}
 use Rattle.records.specs.Journals.{shapeGood, kindGood}
 use Rattle.records.proofs.JournalRecord.shape_good.Statement.{statement}
 use Rattle.records.proofs.JournalRecord.shape_good.Tie as tie

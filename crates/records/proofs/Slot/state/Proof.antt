@@ -1,5 +1,5 @@
 -- `records::Slot::state` meets its contract, in the definition's three cases. Assumes nothing.
-use borrow.Author.Tests.{eq-eqb, ne-eqb, le-leb, lt-leb, lt-ltb, le-ltb}
+use borrow.Author.Tests.{eq-eqb, ne-eqb}
 use Rattle.records.specs.Slots.{stateOf}
 use Rattle.records.proofs.Slot.state.Statement.{statement}
 use Rattle.records.proofs.Slot.state.Tie as tie
