@@ -143,9 +143,6 @@ module _ (r : Rule) (m : List ℕ) (used : ℕ) where
   pub taken-pass : Pass r m used (taken r m used)
   taken-pass = record { lies = λ k h. passed k (law .before k h) }
 
-  pub taken-stops : 0 < r .size → 0 < used → stops r m used (taken r m used) ≡ true
-  taken-stops z u = law .here (omega (arith, few taken-pass z, div-le-self (used - headerSize) (r .size)))
-
   pub taken-is : {n : ℕ} → 0 < r .size → Pass r m used n → stops r m used n ≡ true → taken r m used ≡ n
   unfolding taken
   taken-is {n} z h e =
@@ -195,10 +192,3 @@ module _ (r : Rule) (m : List ℕ) (used : ℕ) where
       answer-case (λ (w : Walk). w ≡ Fault p k → (taken r m used ≡ k) × (place (r .head) m k ≡ p) × (block (r .head) m k ≡ 0 → ⊥))
       (λ z q. let o : _≡_ {A = ℕ} 0 1 = cc in let no-way : ⊥ = omega arith in absurd no-way)
       (λ z q. let t : taken r m used ≡ k = cc in let a : place (r .head) m (taken r m used) ≡ p = cc in (t, rw t at a, rw t at z))
-
-  pub fault-bad : {p k : ℕ} → 0 < r .size → 0 < used → walked r m used ≡ Fault p k → badLink r m used k ≡ true
-  unfolding stops
-  fault-bad {p} {k} z u e =
-      let f = fault-tells e in
-      let s : stops r m used k ≡ true = rw (f .0) at (taken-stops z u) in
-      rw (ne-eqb (block (r .head) m k) 0 (f .2)) at s

@@ -241,10 +241,6 @@ pub said : {m jn : List ℕ} {r a : Answer} {w : Outcome} → r ≡ a → w ≡ 
 said q e = let p = parts e in (q ∙ p .0, p .1)
 
 module _ (m : List ℕ) (used : ℕ) (jn : List ℕ) (e kind s y : ℕ) where
-  pub fresh-refused : freshChange m used jn e kind s false y ≡ saying m jn (Refused 12 0)
-  unfolding freshChange
-  fresh-refused = refl
-
   pub fresh-full : isFull jn ≡ true → freshChange m used jn e kind s true y ≡ saying m jn (Refused 15 0)
   unfolding freshChange
   fresh-full f = rw f

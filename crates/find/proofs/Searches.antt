@@ -19,7 +19,7 @@ use native.Mathlib.Omega.{arith}
 use lib.Dec.{T, ltb}
 use lib.IntN.{ℤ}
 use lib.ListN.{length, getD, drop}
-use lib.Seq.{length-sets, sets-eq}
+use lib.Seq.{sets-eq}
 use lib.Signed.{leZ, _≤ℤ_}
 use borrow.Author.Tests.{lt-ltb, le-ltb, ltb-false}
 use Rattle.numbers.specs.Below.{sel}
@@ -176,14 +176,6 @@ module _ (m : List ℕ) (used : ℕ) (w : Window) (l : List ℕ) where
       go (Found c b) e h = rw (by-answer e) (getD-sets-high (found m b w) l 0 i (omega (arith, found-tells m used w (length l) e .counted)))
       go (Short c) e h = rw (by-answer e)
       go (Refused k p) e h = rw (by-answer e)
-
-  pub length-kept : length (listAfter m used w l) ≡ length l
-  length-kept = go (answerOf m used w (length l)) refl
-    where
-      go : (a : Answer) → answerOf m used w (length l) ≡ a → length (listAfter m used w l) ≡ length l
-      go (Found c b) e = rw (by-answer e) (length-sets l 0 (found m b w))
-      go (Short c) e = rw (by-answer e)
-      go (Refused k p) e = rw (by-answer e)
 
   pub refusal-leaves : (numberOf (answerOf m used w (length l)) ≡ 0 → ⊥) → listAfter m used w l ≡ l
   refusal-leaves = go (answerOf m used w (length l)) refl

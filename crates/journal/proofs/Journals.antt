@@ -93,19 +93,6 @@ well-formed-parts jn m n =
 abbrev pub KeepsUse : List ℕ → ℕ → List ℕ → ℕ → Type 0
 KeepsUse m n m′ n′ = (s : ℕ) → slotUsed m n s ≡ true → slotUsed m′ n′ s ≡ true
 
-pub use-mono : (jn m m′ : List ℕ) (n n′ : ℕ) → KeepsUse m n m′ n′ → wellFormed jn m n ≡ true → wellFormed jn m′ n′ ≡ true
-use-mono jn m m′ n n′ keep e =
-    let w = well-formed-tells jn m n e in
-    well-formed-is jn m′ n′
-    (record {
-      within = w .within;
-      whole = w .whole;
-      good = λ i l.
-          let g = good-tells jn m n i (w .good i l) in
-          good-is jn m′ n′ i (record { shape = g .shape; used = keep _ (g .used); new = g .new });
-      rest = w .rest;
-    })
-
 -- ---- what holds a number
 
 holder-first : (jn : List ℕ) (e : ℕ) → First (λ i. eqb (recordIn jn i .number) e) (inUse jn) (holder jn e)
@@ -268,10 +255,6 @@ by-look jn m n e {A} l q bad held new = go (eqb e 0) refl (wellFormed jn m n) re
     go false f false g d h = bad (sym q ∙ rw (f, g)) (inr g)
     go false f true g true h = held (record { number = eqb-false e 0 f; well = g }) h (sym q ∙ rw (f, g, h))
     go false f true g false h = new (record { number = eqb-false e 0 f; well = g }) h (sym q ∙ rw (f, g, h))
-
-pub looked-malformed : (jn m : List ℕ) (n e : ℕ) → looked jn m n e ≡ Malformed → (e ≡ 0) ⊎ (wellFormed jn m n ≡ false)
-looked-malformed jn m n e q =
-    by-look jn m n e Malformed q (λ p h. h) (λ s h p. zero-one (cc)) (λ s h p. zero-one (cc))
 
 pub looked-held : (jn m : List ℕ) (n e kind slot : ℕ) → looked jn m n e ≡ Held kind slot
     → Sound jn m n e × (isHeld jn e ≡ true) × (kind ≡ recordIn jn (holder jn e) .kind) × (slot ≡ recordIn jn (holder jn e) .slot)

@@ -162,7 +162,3 @@ getD-sets vs xs at j h (inr l) = getD-sets-high vs xs at j l
 -- one store more, at the end of a run
 pub sets-snoc : (us xs : List ℕ) (at i v : ℕ) → at + length us ≡ i → set (sets xs at us) i v ≡ sets xs at (us ++ (v ∷ []))
 sets-snoc us xs at i v e = rw (← e) (sets-append us (v ∷ []) xs at)
-
--- a writer that goes on where another stopped: l is what the first left
-pub sets-then : (us vs xs l : List ℕ) (at i : ℕ) → at + length us ≡ i → l ≡ sets xs at us → sets l i vs ≡ sets xs at (us ++ vs)
-sets-then us vs xs l at i e h = rw (h, ← e) (sets-append us vs xs at)

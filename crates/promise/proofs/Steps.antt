@@ -87,10 +87,6 @@ module _ (m : List ℕ) (used : ℕ) (j : List ℕ) (e kind s n : ℕ) (v : verd
       go (Held k t) q = inl (repeat-still k t)
       go (New k) q = let h = looked-new j m n e k q in fresh-cases (h .1) (h .0 .number) (h .0 .well)
 
-  -- a number that is held changes nothing
-  pub change-held : isHeld j e ≡ true → Still m j (changed m used j e kind s)
-  change-held h = ⊎-elim (λ x. x) (λ d. absurd (never (sym h ∙ d .fresh))) change-cases
-
 -- what a done add tells
 pub record DoneAdd (m : List ℕ) (used : ℕ) (j : List ℕ) (e : ℕ) (o : List ℕ) (n : ℕ) (out : Outcome) : Type 0 where
   pub number : e ≡ 0 → ⊥
@@ -160,9 +156,6 @@ module _ (m : List ℕ) (used : ℕ) (j : List ℕ) (e : ℕ) (o : List ℕ) (n 
   unfolding added looked freshAdd
   add-done ne f w good limit fits room =
       rw (start-of m used j e n v, ne-eqb e 0 ne, w, f, good, le-leb (newLength m used n o) 16777216 limit, le-leb (newLength m used n o) (length m) fits, room)
-
-  pub add-held : isHeld j e ≡ true → Still m j (added m used j e o)
-  add-held h = ⊎-elim (λ x. x) (λ d. absurd (never (sym h ∙ d .fresh))) add-cases
 
 -- ---- in any map at all: what is not done changes nothing
 

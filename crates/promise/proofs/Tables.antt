@@ -99,10 +99,6 @@ module _ (m : List ℕ) (v : verdict m 48 ≡ Accepted 0) (seven : versionOf m �
   m′ : List ℕ
   m′ = addedMap m 48 0 pointObject
 
-  length-one : newLength m 48 0 pointObject ≡ 6236
-  unfolding newLength freeSlot first
-  length-one = refl
-
   good : offeredGood (versionOf m) pointObject ≡ true
   good = rw seven offered
 
