@@ -191,8 +191,7 @@ fn object_good(m: &[u8], used: usize, version: u16, index: &[u32], t: Slot) -> b
     header_fits(ObjectHeader::of(&m[at..]), t, bytes)
 }
 
-// Whether a slot that is not free would be good as a live one. Side by side the two comparisons would become one of vectors, with loads that cross the lines of
-// the cache.
+// Whether a slot that is not free would be good as a live one. The two comparisons stand apart for the sake of time (DECISIONS, C9).
 pub fn slot_good(m: &[u8], used: usize, version: u16, index: &[u32], t: Slot) -> bool
     requires { ⌜ (used ≤ mapLimit) × (used ≤ length (now m)) × (used + indexPage ≤ length (now index) * indexPage) × Filled indexBlockSize indexPage used (now index) × (t .len ≡ 0 → ⊥) ⌝ }
     ensures { λ r. ⌜ r ≡ slotGood (endsMeet indexBlockSize (now (index .entry))) (now (m .entry)) used version t ⌝ }
