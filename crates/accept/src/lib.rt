@@ -58,9 +58,9 @@ pub enum Judged {
 }
 
 // What the slots of a block are judged to be: the first at fault, and the first free, 256 where there is none.
-pub struct Seen {
-    pub bad: usize,
-    pub free: usize,
+struct Seen {
+    bad: usize,
+    free: usize,
 }
 
 // Document 01's number of an answer.

@@ -18,7 +18,7 @@ ghost use Rattle.numbers.specs.Bytes.{u16At};
 ghost use Rattle.numbers.specs.Coordinates.{unmarked};
 ghost use Rattle.records.specs.Sizes.{headerSize, slotSize, objectHeaderSize, pairSize, windowSize, journalRecordSize};
 ghost use Rattle.records.specs.Headers.{headerOf, partOf, pairGood};
-ghost use Rattle.records.specs.Slots.{slotOf, slotBytes, stateOf, stateNumber, sameState, foundAt, lenGood, pairsOf, bytesIn, bytesInRange, lenOf};
+ghost use Rattle.records.specs.Slots.{slotOf, slotBytes, stateOf, stateNumber, sameState, foundAt, bytesIn, bytesInRange, lenOf};
 ghost use Rattle.records.specs.Objects.{objectOf, typeGood, xOf, yOf, lesserOf, greaterOf, pointAt, joined, withoutMarks, rectangleOf};
 ghost use Rattle.records.specs.Windows.{windowOf, windowGood, meetsWindow};
 ghost use Rattle.records.specs.Symbols.{sizeGood};
@@ -265,17 +265,6 @@ pub fn read_slot(m: &[u8], at: usize) -> Found
         state,
         place: at,
     }
-}
-
-// The pair count of a slot.
-pub fn pairs_of(version: u16, len: u16) -> usize
-    requires { ⌜ lenGood version len ≡ true ⌝ }
-    ensures { λ r. ⌜ r ≡ pairsOf version len ⌝ }
-{
-    if version == 8 {
-        return len as usize;
-    }
-    (len as usize - ObjectHeader::SIZE) / ObjectHeader::PAIR
 }
 
 // The first of two numbers, or the second.
