@@ -1,6 +1,6 @@
--- The laws of one pass over the records of a journal jn: what the chain of a bucket tells of a number, what is known when i records have been passed, and what
+-- The laws of one pass over the records of a journal jn: what the trees tell of a number, what is known when i records have been passed, and what
 -- the pass's answer makes of a look. m is a map of n index blocks. Assumes nothing.
-use Prim.Native.Nat.{ℕ, zero, suc, _+_, _*_, _%_, _≤_, _<_}
+use Prim.Native.Nat.{ℕ, zero, suc, _+_, _-_, _*_, _/_, _%_, _≤_, _<_}
 use mathlib.Core.Bool.{Bool, true, false, not, cond, _&&_}
 use mathlib.Core.Path.{_≡_, refl, sym, ap, _∙_}
 use mathlib.Core.Logic.{_⊎_, inl, inr, ⊎-elim}
@@ -22,7 +22,7 @@ use Rattle.records.specs.declared.JournalRecord.{JournalRecord}
 use Rattle.records.specs.Sizes.{journalRecordSize, journalLimit}
 use Rattle.records.specs.Journals.{recordFor, shapeGood, isUnused}
 use Rattle.journal.specs.Journals.{recordIn, total, inUse, slotUsed, recordGood, wellFormed, holder, isHeld, looked}
-use Rattle.journal.specs.Passes.{bucketOf, lastIn, Chained, heldIn, judged}
+use Rattle.journal.specs.Passes.{bitsOf, linkOf, Down, Linked, Comes, heldIn, judged}
 use Rattle.journal.specs.declared.Judged.{Judged}
 use Rattle.journal.specs.declared.Judged.the-variants.{Bad, Good}
 use Rattle.journal.specs.declared.Look.the-variants.{Malformed, Held, New}
@@ -30,154 +30,180 @@ use Rattle.journal.proofs.Below.{zero-one, not-true-is}
 use Rattle.journal.proofs.Records.{shape-in-use, in-use-past, in-use-within}
 use Rattle.journal.proofs.Journals.{good-tells, well-formed-parts, held-is, holder-only, held-tells}
 
--- ---- the chain of a bucket
+-- ---- the trees
 
--- what holds of the last of a bucket among the first i records
-pub record Last (b : ℕ) (jn : List ℕ) (a i r : ℕ) : Type 0 where
-  pub within : r ≤ i
-  pub here : (k : ℕ) → r ≡ k + 1 → bucketOf b (recordIn jn k .number) ≡ a
-  pub after : (k : ℕ) → r ≤ k → k < i → bucketOf b (recordIn jn k .number) ≡ a → ⊥
-
-pub last-law : (b : ℕ) (jn : List ℕ) (a i : ℕ) → Last b jn a i (lastIn b jn a i)
-unfolding lastIn
-last-law b jn a zero =
-    record { within = omega arith; here = λ k q. let no-way : ⊥ = omega arith in absurd no-way; after = λ k g l. let no-way : ⊥ = omega arith in absurd no-way }
-last-law b jn a (suc i) = go (last-law b jn a i) (eqb (bucketOf b (recordIn jn i .number)) a) refl
-  where
-    go : Last b jn a i (lastIn b jn a i) → (t : Bool) → eqb (bucketOf b (recordIn jn i .number)) a ≡ t → Last b jn a (suc i) (lastIn b jn a (suc i))
-    go s true f =
-        rw f
-        (record {
-          within = omega arith;
-          here = λ k q. let e : k ≡ i = omega arith in rw e (eqb-true _ _ f);
-          after = λ k g l. let no-way : ⊥ = omega arith in absurd no-way;
-        })
-    go s false f =
-        rw f
-        (record {
-          within = omega (arith, s .within);
-          here = s .here;
-          after = λ k g l. ⊎-elim (λ e. rw e (eqb-false _ _ f)) (s .after k g) (below-cases l);
-        })
-
--- a chain goes down
-pub chain-falls : (b : ℕ) (jn l : List ℕ) → Chained b jn l → (k : ℕ) → k < length l → getD l k 0 ≤ k
-chain-falls b jn l c k h = rw (c .entry k h) (last-law b jn (bucketOf b (recordIn jn k .number)) k .within)
-
--- the walk along the chain of number e stands at `at`: no record from `top` on has the number, and `at` is the last of its bucket before
-pub record Walking (b : ℕ) (jn l : List ℕ) (e at : ℕ) : Type 0 where
-  pub top : ℕ
-  pub within : top ≤ length l
-  pub stands : at ≡ lastIn b jn (bucketOf b e) top
-  pub none : (k : ℕ) → top ≤ k → k < length l → recordIn jn k .number ≡ e → ⊥
-
-pub walk-first : (b : ℕ) (jn l : List ℕ) (e at : ℕ) → at ≡ lastIn b jn (bucketOf b e) (length l) → Walking b jn l e at
-walk-first b jn l e at q =
-    record { top = length l; within = omega arith; stands = q; none = λ k g h. let no-way : ⊥ = omega arith in absurd no-way }
-
-module _ {b : ℕ} {jn l : List ℕ} {e at : ℕ} (w : Walking b jn l e at) where
-  last : Last b jn (bucketOf b e) (w .top) at
-  last = rw (w .stands) (last-law b jn (bucketOf b e) (w .top))
-
-  pub walk-within : at ≤ length l
-  walk-within = omega (arith, last .within, w .within)
-
-  -- no record from `at` on has the number
-  past : (k : ℕ) → at ≤ k → k < length l → recordIn jn k .number ≡ e → ⊥
-  past k g h p = ⊎-elim (λ u. last .after k g u (ap (bucketOf b) p)) (λ u. w .none k u h p) (lt-or-ge k (w .top))
-
-  -- the record looked at has another number: on to the one before it in its chain
-  pub walk-on : (k : ℕ) → at ≡ k + 1 → Chained b jn l → (recordIn jn k .number ≡ e → ⊥) → Walking b jn l e (getD l k 0)
-  walk-on k q c new =
-      record {
-        top = k;
-        within = omega (arith, walk-within);
-        stands = c .entry k (omega (arith, walk-within)) ∙ ap (λ a. lastIn b jn a k) (last .here k q);
-        none = λ i g h p.
-            elim (ℕ-discrete i k) [
-              | yes s ↦ new (rw s at p)
-              | no s ↦ past i (omega arith) h p
-            ];
-      }
-
-  -- the chain is at its end
-  pub walk-none : at ≡ 0 → any (λ (k : ℕ). eqb (recordIn jn k .number) e) (length l) ≡ false
-  walk-none q = any-none _ (length l) (λ k h. ne-eqb _ _ (past k (omega arith) h))
-
--- ---- the pass over the records
-
--- a number of 32 bits, spread over b buckets
+-- a number of 32 bits, spread over b trees
 pub spread-below : (b e : ℕ) → 0 < b → e % 4294967296 * b < b * 4294967296
 spread-below b e z = rw (mul-comm b 4294967296) (mul-lt-mul-of-pos-right (mod-lt e (omega arith)) z)
 
-pub bucket-below : (b e : ℕ) → 0 < b → bucketOf b e < b
-unfolding bucketOf
-bucket-below b e z = div-lt-iff-lt-mul {k = 4294967296} {x = e * 2654435769 % 4294967296 * b} {y = b} (omega arith) .1 (spread-below b (e * 2654435769) z)
+root-below : (b : ℕ) (l : List ℕ) (e : ℕ) → 0 < b → linkOf b l e 0 < b
+unfolding linkOf bitsOf
+root-below b l e z = div-lt-iff-lt-mul {k = 4294967296} {x = e * 2654435769 % 4294967296 * b} {y = b} (omega arith) .1 (spread-below b (e * 2654435769) z)
 
-last-more : (b : ℕ) (jn : List ℕ) (a i : ℕ) → lastIn b jn a (i + 1) ≡ cond (eqb (bucketOf b (recordIn jn i .number)) a) (i + 1) (lastIn b jn a i)
-unfolding lastIn
-last-more b jn a i = rw add-one
+-- the next link is one of the two below the record
+step-within : (b : ℕ) (l : List ℕ) (e d : ℕ) → linkOf b l e (suc d) < b + 2 * (getD l (linkOf b l e d) 0 - 1) + 2
+unfolding linkOf bitsOf
+step-within b l e d = omega arith
+
+-- a number comes down to a root, or to a link below one of the records that are there
+pub down-within : {b : ℕ} {jn l : List ℕ} {i e at : ℕ} → 0 < b → Linked b jn l i → Down b l e at → at < b + 2 * i
+down-within {b} {jn} {l} {i} {e} {at} z t w = rw (w .stands) (go (w .steps) (w .links))
+  where
+    go : (d : ℕ) → ((c : ℕ) → c < d → 0 < getD l (linkOf b l e c) 0) → linkOf b l e d < b + 2 * i
+    go zero h = omega (arith, root-below b l e z)
+    go (suc d) h = omega (arith, step-within b l e d, h d (omega arith), t .within (linkOf b l e d))
+
+-- number e has come down to `at`, with so many bits left, past records of other numbers
+pub record Going (b : ℕ) (jn l : List ℕ) (e bits at : ℕ) : Type 0 where
+  pub down : Down b l e at
+  pub left : bits ≡ bitsOf b e (down .steps)
+  pub others : (c : ℕ) → c < down .steps → recordIn jn (getD l (linkOf b l e c) 0 - 1) .number ≡ e → ⊥
+
+pub going-first : (b : ℕ) (jn l : List ℕ) (e : ℕ) {bits : ℕ} → bits ≡ bitsOf b e 0 → Going b jn l e bits (bits / 4294967296)
+unfolding linkOf
+going-first b jn l e q = record { down = record { steps = 0; links = below-none _; stands = rw q }; left = q; others = below-none _ }
+
+module _ {b : ℕ} {jn l : List ℕ} {e bits at : ℕ} (g : Going b jn l e bits at) where
+  -- the record looked at has another number: a step down
+  pub going-on : 0 < getD l at 0 → (recordIn jn (getD l at 0 - 1) .number ≡ e → ⊥)
+      → Going b jn l e (bits % 4294967296 * 2) (b + 2 * (getD l at 0 - 1) + bits % 4294967296 * 2 / 4294967296)
+  unfolding linkOf bitsOf
+  going-on v new =
+      let d = g .down .steps in
+      record {
+        down = record { steps = suc d; links = λ c h. below-more _ d (g .down .links) (rw (← g .down .stands) v) c (omega arith); stands = rw (← g .down .stands, ← g .left) };
+        left = rw (← g .left);
+        others = λ c h. below-more _ d (g .others) (rw (← g .down .stands) new) c (omega arith);
+      }
+
+  pub going-none : getD l at 0 ≡ 0 → Comes b jn l e at
+  going-none z = record { down = g .down; others = g .others; own = λ v. let no-way : ⊥ = omega arith in absurd no-way }
+
+  pub going-found : recordIn jn (getD l at 0 - 1) .number ≡ e → Comes b jn l e at
+  going-found q = record { down = g .down; others = g .others; own = λ v. q }
+
+-- what a number comes to tells whether one of the records has it
+module _ {b : ℕ} {jn l : List ℕ} {i e at : ℕ} (t : Linked b jn l i) (w : Comes b jn l e at) where
+  pub comes-has : 0 < getD l at 0 → any (λ (k : ℕ). eqb (recordIn jn k .number) e) i ≡ true
+  comes-has v = any-at _ {i = getD l at 0 - 1} i (omega (arith, t .within at)) (eq-eqb _ _ (w .own v))
+
+  pub comes-none : getD l at 0 ≡ 0 → any (λ (k : ℕ). eqb (recordIn jn k .number) e) i ≡ false
+  comes-none z = any-none _ i (λ k h. ne-eqb _ _ (λ p. go k p (t .leads k h)))
+    where
+      go : (k : ℕ) → recordIn jn k .number ≡ e → ((p : ℕ) × Down b l (recordIn jn k .number) p × (getD l p 0 ≡ k + 1)) → ⊥
+      go k p f =
+          let u : Down b l e (f .0) = rw p at (f .1) in
+          let v : getD l (linkOf b l e (u .steps)) 0 ≡ k + 1 = rw (← u .stands) (f .2) in
+          let x : getD l (linkOf b l e (w .down .steps)) 0 ≡ 0 = rw (← w .down .stands) z in
+          let same : k + 1 - 1 ≡ k = omega arith in
+          ⊎-elim
+          (λ s. w .others (u .steps) s (rw (v, same) p))
+          (λ s.
+          elim (ℕ-discrete (w .down .steps) (u .steps)) [
+            | yes q ↦ omega (arith, v, rw q at x)
+            | no q ↦ omega (arith, x, u .links (w .down .steps) (omega arith))
+          ])
+          (lt-or-ge (u .steps) (w .down .steps))
+
+-- a link that is 0 is set: who came down without it comes down as before
+module _ (b : ℕ) (l : List ℕ) (at v : ℕ) (z : getD l at 0 ≡ 0) where
+  other : (p : ℕ) → 0 < getD l p 0 → getD (set l at v) p 0 ≡ getD l p 0
+  other p h = getD-set-other l at p v 0 (λ q. omega (arith, z, rw q at h))
+
+  link-stays : (e d : ℕ) → ((c : ℕ) → c < d → 0 < getD l (linkOf b l e c) 0) → linkOf b (set l at v) e d ≡ linkOf b l e d
+  unfolding linkOf
+  link-stays e zero h = refl
+  link-stays e (suc d) h = rw (link-stays e d (λ c k. h c (omega arith)), other _ (h d (omega arith)))
+
+  down-stays : (e p : ℕ) → Down b l e p → Down b (set l at v) e p
+  down-stays e p w =
+      record {
+        steps = w .steps;
+        links = λ c k. rw (link-stays e c (λ a h. w .links a (omega arith)), other _ (w .links c k)) (w .links c k);
+        stands = rw (link-stays e (w .steps) (w .links)) (w .stands);
+      }
+
+-- record i is put at the link that its number comes to
+linked-more : {b : ℕ} {jn l : List ℕ} {i at : ℕ} → 0 < b → Linked b jn l i → Comes b jn l (recordIn jn i .number) at → getD l at 0 ≡ 0
+    → journalRecordSize * (i + 1) ≤ length jn → b + 2 * (i + 1) ≤ length l → Linked b jn (set l at (i + 1)) (i + 1)
+linked-more {b} {jn} {l} {i} {at} y t w z inside room =
+    let low = down-within y t (w .down) in
+    let here : getD (set l at (i + 1)) at 0 ≡ i + 1 = getD-set-same l at (i + 1) 0 (omega (arith, low)) in
+    record {
+      inside = inside;
+      room = simp length-set room;
+      within = λ p.
+          elim (ℕ-discrete p at) [
+            | yes q ↦ rw (q, here) (omega arith)
+            | no q ↦ rw (getD-set-other l at p (i + 1) 0 q) (omega (arith, t .within p))
+          ];
+      rises = λ p h.
+          elim (ℕ-discrete p at) [
+            | yes q ↦ rw (q, here) (omega (arith, low))
+            | no q ↦ rw (getD-set-other l at p (i + 1) 0 q) (t .rises p (rw (getD-set-other l at p (i + 1) 0 q) at h))
+          ];
+      leads =
+          below-more _ i
+          (λ k h. let f = t .leads k h in (f .0, down-stays b l at _ z _ _ (f .1), other b l at _ z _ (omega (arith, f .2)) ∙ f .2))
+          (at, down-stays b l at _ z _ _ (w .down), here);
+    }
+
+-- ---- the pass over the records
 
 held-more : (jn : List ℕ) (e i : ℕ) → heldIn jn e (i + 1) ≡ cond (eqb (recordIn jn i .number) e) (recordIn jn i) (heldIn jn e i)
 unfolding heldIn
 held-more jn e i = rw add-one
 
--- the records below i are good and chained in b buckets, and the one that holds number e is kept
-pub record Passed (b : ℕ) (jn m : List ℕ) (n e : ℕ) (heads earlier : List ℕ) (held : JournalRecord) (i : ℕ) : Type 0 where
+-- the records below i are good and in b trees, and the one that holds number e is kept
+pub record Passed (b : ℕ) (jn m : List ℕ) (n e : ℕ) (l : List ℕ) (held : JournalRecord) (i : ℕ) : Type 0 where
   pub some : 0 < b
-  pub buckets : length heads ≡ b
-  pub places : total jn ≤ length earlier
-  pub head : (a : ℕ) → a < b → getD heads a 0 ≡ lastIn b jn a i
-  pub entry : (k : ℕ) → k < i → getD earlier k 0 ≡ lastIn b jn (bucketOf b (recordIn jn k .number)) k
+  pub places : b + 2 * total jn ≤ length l
+  pub linked : Linked b jn l i
   pub good : (k : ℕ) → k < i → recordGood jn m n k ≡ true
   pub kept : held ≡ heldIn jn e i
 
-pub passed-none : (jn m : List ℕ) (n e : ℕ) (heads earlier : List ℕ) → 0 < length heads → Empty heads → total jn ≤ length earlier
-    → Passed (length heads) jn m n e heads earlier (recordFor 0 0 0) 0
-unfolding lastIn heldIn
-passed-none jn m n e heads earlier z empty room =
-    record { some = z; buckets = refl; places = room; head = λ a l. empty a; entry = below-none _; good = below-none _; kept = refl }
+pub passed-none : (b : ℕ) (jn m : List ℕ) (n e : ℕ) (l : List ℕ) → 0 < b → Empty l → b + 2 * total jn ≤ length l → Passed b jn m n e l (recordFor 0 0 0) 0
+unfolding heldIn
+passed-none b jn m n e l z empty room =
+    record {
+      some = z;
+      places = room;
+      linked =
+          record {
+            inside = omega arith;
+            room = omega (arith, room);
+            within = λ p. rw (empty p) (omega arith);
+            rises = λ p h. let no-way : ⊥ = omega (arith, empty p) in absurd no-way;
+            leads = below-none _;
+          };
+      good = below-none _;
+      kept = refl;
+    }
 
-module _ {b : ℕ} {jn m : List ℕ} {n e : ℕ} {heads earlier : List ℕ} {held : JournalRecord} {i : ℕ} (s : Passed b jn m n e heads earlier held i) where
+module _ {b : ℕ} {jn m : List ℕ} {n e : ℕ} {l : List ℕ} {held : JournalRecord} {i : ℕ} (s : Passed b jn m n e l held i) where
   in-use-below : (k : ℕ) → k < i → isUnused (recordIn jn k) ≡ false
-  in-use-below k l = shape-in-use (recordIn jn k) (good-tells jn m n k (s .good k l) .shape)
+  in-use-below k h = shape-in-use (recordIn jn k) (good-tells jn m n k (s .good k h) .shape)
 
   -- no record is left, or the next is unused: those passed are in use
   pub passed-all : i ≤ total jn → (i < total jn → isUnused (recordIn jn i) ≡ true) → Good i held ≡ judged jn m n e
   unfolding judged inUse
   passed-all h stop =
       let q : inUse jn ≡ i = first-is (λ (k : ℕ). isUnused (recordIn jn k)) (total jn) i h in-use-below stop in
-      rw (q, any-none (λ (k : ℕ). not (recordGood jn m n k)) i (λ k l. rw (s .good k l)), s .kept)
+      rw (q, any-none (λ (k : ℕ). not (recordGood jn m n k)) i (λ k g. rw (s .good k g)), s .kept)
 
 -- record i, the next to pass, is read as r
-pub record Next (b : ℕ) (jn m : List ℕ) (n e : ℕ) (heads earlier : List ℕ) (held : JournalRecord) (i : ℕ) (r : JournalRecord) : Type 0 where
-  pub passed : Passed b jn m n e heads earlier held i
+pub record Next (b : ℕ) (jn m : List ℕ) (n e : ℕ) (l : List ℕ) (held : JournalRecord) (i : ℕ) (r : JournalRecord) : Type 0 where
+  pub passed : Passed b jn m n e l held i
   pub within : i < total jn
   pub read : r ≡ recordIn jn i
 
-module _ {b : ℕ} {jn m : List ℕ} {n e : ℕ} {heads earlier : List ℕ} {held : JournalRecord} {i : ℕ} {r : JournalRecord} (x : Next b jn m n e heads earlier held i r) where
-  pub passed-size : length (take i earlier) ≡ i
-  passed-size = length-take-le i earlier (omega (arith, x .passed .places, x .within))
-
-  pub passed-chained : Chained b jn (take i earlier)
-  passed-chained =
-      record {
-        inside = rw passed-size (omega (arith, x .within));
-        entry = λ k l. getD-take i earlier k 0 (rw passed-size at l) ∙ x .passed .entry k (rw passed-size at l);
-      }
-
-  pub passed-bucket : bucketOf b (r .number) < b
-  passed-bucket = bucket-below b (r .number) (x .passed .some)
-
-  pub passed-last : getD heads (bucketOf b (r .number)) 0 ≡ lastIn b jn (bucketOf b (r .number)) (length (take i earlier))
-  passed-last = rw passed-size (x .passed .head (bucketOf b (r .number)) passed-bucket)
-
+module _ {b : ℕ} {jn m : List ℕ} {n e : ℕ} {l : List ℕ} {held : JournalRecord} {i : ℕ} {r : JournalRecord} (x : Next b jn m n e l held i r) where
   -- it is in use and not good
   bad : isUnused r ≡ false → recordGood jn m n i ≡ false → Bad ≡ judged jn m n e
   unfolding judged
   bad u g =
-      let l = in-use-past jn i (x .within) (below-more _ i (in-use-below (x .passed)) (rw (x .read) at u)) in
-      rw (any-at (λ (k : ℕ). not (recordGood jn m n k)) {i = i} (inUse jn) l (rw g))
+      let h = in-use-past jn i (x .within) (below-more _ i (in-use-below (x .passed)) (rw (x .read) at u)) in
+      rw (any-at (λ (k : ℕ). not (recordGood jn m n k)) {i = i} (inUse jn) h (rw g))
 
   pub shape-bad : isUnused r ≡ false → shapeGood r ≡ false → Bad ≡ judged jn m n e
   unfolding recordGood
@@ -188,36 +214,24 @@ module _ {b : ℕ} {jn m : List ℕ} {n e : ℕ} {heads earlier : List ℕ} {hel
   slot-bad u g f = bad u (rw (← x .read, g, f))
 
   by-number : shapeGood r ≡ true → slotUsed m n (r .slot) ≡ true
-      → recordGood jn m n i ≡ not (any (λ (k : ℕ). eqb (recordIn jn k .number) (r .number)) (length (take i earlier)))
+      → recordGood jn m n i ≡ not (any (λ (k : ℕ). eqb (recordIn jn k .number) (r .number)) i)
   unfolding recordGood
-  by-number g f = rw (passed-size, ← x .read, g, f)
+  by-number g f = rw (← x .read, g, f)
 
-  pub number-bad : isUnused r ≡ false → shapeGood r ≡ true → slotUsed m n (r .slot) ≡ true
-      → any (λ (k : ℕ). eqb (recordIn jn k .number) (r .number)) (length (take i earlier)) ≡ true → Bad ≡ judged jn m n e
-  number-bad u g f t = bad u (by-number g f ∙ rw t)
+  -- the link that its number comes to leads to a record
+  pub number-bad : {at : ℕ} → isUnused r ≡ false → shapeGood r ≡ true → slotUsed m n (r .slot) ≡ true
+      → Comes b jn l (r .number) at → 0 < getD l at 0 → Bad ≡ judged jn m n e
+  number-bad u g f w v = bad u (by-number g f ∙ rw (comes-has (x .passed .linked) w v))
 
-  -- it is good, and chained in
-  pub passed-more : shapeGood r ≡ true → slotUsed m n (r .slot) ≡ true
-      → any (λ (k : ℕ). eqb (recordIn jn k .number) (r .number)) (length (take i earlier)) ≡ false
-      → (held′ : JournalRecord) → held′ ≡ cond (eqb (r .number) e) r held
-      → Passed b jn m n e (set heads (bucketOf b (r .number)) (i + 1)) (set earlier i (getD heads (bucketOf b (r .number)) 0)) held′ (i + 1)
-  passed-more g f t held′ p =
-      let a = bucketOf b (r .number) in
-      let at-a : bucketOf b (recordIn jn i .number) ≡ a = rw (x .read) in
+  -- it is good, and put there
+  pub passed-more : {at : ℕ} → shapeGood r ≡ true → slotUsed m n (r .slot) ≡ true → Comes b jn l (r .number) at → getD l at 0 ≡ 0
+      → (held′ : JournalRecord) → held′ ≡ cond (eqb (r .number) e) r held → Passed b jn m n e (set l at (i + 1)) held′ (i + 1)
+  passed-more {at} g f w z held′ p =
       record {
         some = x .passed .some;
-        buckets = simp length-set (x .passed .buckets);
         places = simp length-set (x .passed .places);
-        head = λ k l.
-            elim (ℕ-discrete k a) [
-              | yes z ↦ rw (z, last-more b jn a i, eq-eqb _ _ at-a) (getD-set-same heads a (i + 1) 0 (omega (arith, x .passed .buckets, passed-bucket)))
-              | no z ↦ rw (last-more b jn k i, ne-eqb _ _ (λ u. z (sym u ∙ at-a))) (getD-set-other heads a k (i + 1) 0 z ∙ x .passed .head k l)
-            ];
-        entry =
-            below-more _ i
-            (λ k l. getD-set-other earlier i k _ 0 (λ z. omega arith) ∙ x .passed .entry k l)
-            (rw at-a (getD-set-same earlier i _ 0 (omega (arith, x .passed .places, x .within)) ∙ x .passed .head a passed-bucket));
-        good = below-more _ i (x .passed .good) (by-number g f ∙ rw t);
+        linked = linked-more (x .passed .some) (x .passed .linked) (rw (x .read) at w) z (omega (arith, x .within)) (omega (arith, x .within, x .passed .places));
+        good = below-more _ i (x .passed .good) (by-number g f ∙ rw (comes-none (x .passed .linked) w z));
         kept = rw (held-more jn e i, ← x .read, ← x .passed .kept) p;
       }
 

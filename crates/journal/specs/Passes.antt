@@ -1,11 +1,14 @@
--- One pass over the records of a journal j, and the buckets by which a number is looked for among few of them.
---     bucketOf b e         the bucket that number e falls in, one of b
---     lastIn b j a i       1 + the last of the first i records whose number falls in bucket a of b, and 0 where there is none
---     Chained b j l        the journal has a record for each entry of l, and the entry is what lastIn says of the records before it, for its own bucket of b
+-- One pass over the records of a journal j, and the trees in which a number is looked for among few of them. Links l are first the roots of b trees, then two for
+-- each record: a link is 0, or 1 + the record that it leads to.
+--     bitsOf b e d         the spread of number e over b trees after d steps down: over 4,294,967,296, its whole part tells the tree, and after that the side
+--     linkOf b l e d       the link at which number e stands after d steps down
+--     Down b l e at        number e comes down to link `at`, by links that are not 0
+--     Linked b j l i       the first i records are in the trees: each one's number comes down to its link, and the links below a record lead to later ones
+--     Comes b j l e at     number e comes down to `at` past records of other numbers, and `at` is 0 or leads to a record that has it
 --     heldIn j e i         the last of the first i records that has number e, and the record that is all zero where none has
 --     judged j m n e       what the pass answers beside a map m of n index blocks: that a record in use is not good, or how many are in use and which of them
 --                          holds number e
-use Prim.Native.Nat.{ℕ, zero, suc, _*_, _/_, _%_, _≤_, _<_}
+use Prim.Native.Nat.{ℕ, zero, suc, _+_, _-_, _*_, _/_, _%_, _≤_, _<_}
 use mathlib.Core.Bool.{not, cond}
 use mathlib.Core.List.{List}
 use mathlib.Core.Path.{_≡_}
@@ -19,16 +22,30 @@ use Rattle.journal.specs.Journals.{recordIn, inUse, recordGood}
 use Rattle.journal.specs.declared.Judged.{Judged}
 use Rattle.journal.specs.declared.Judged.the-variants.{Bad, Good}
 
-unfoldable pub bucketOf : ℕ → ℕ → ℕ
-bucketOf b e = e * 2654435769 % 4294967296 * b / 4294967296
+unfoldable pub bitsOf : ℕ → ℕ → ℕ → ℕ
+bitsOf b e zero = e * 2654435769 % 4294967296 * b
+bitsOf b e (suc d) = bitsOf b e d % 4294967296 * 2
 
-unfoldable pub lastIn : ℕ → List ℕ → ℕ → ℕ → ℕ
-lastIn b j a zero = zero
-lastIn b j a (suc k) = cond (eqb (bucketOf b (recordIn j k .number)) a) (suc k) (lastIn b j a k)
+unfoldable pub linkOf : ℕ → List ℕ → ℕ → ℕ → ℕ
+linkOf b l e zero = bitsOf b e zero / 4294967296
+linkOf b l e (suc d) = b + 2 * (getD l (linkOf b l e d) 0 - 1) + bitsOf b e (suc d) / 4294967296
 
-pub record Chained (b : ℕ) (j l : List ℕ) : Type 0 where
-  pub inside : journalRecordSize * length l ≤ length j
-  pub entry : (k : ℕ) → k < length l → getD l k 0 ≡ lastIn b j (bucketOf b (recordIn j k .number)) k
+pub record Down (b : ℕ) (l : List ℕ) (e at : ℕ) : Type 0 where
+  pub steps : ℕ
+  pub links : (c : ℕ) → c < steps → 0 < getD l (linkOf b l e c) 0
+  pub stands : at ≡ linkOf b l e steps
+
+pub record Linked (b : ℕ) (j l : List ℕ) (i : ℕ) : Type 0 where
+  pub inside : journalRecordSize * i ≤ length j
+  pub room : b + 2 * i ≤ length l
+  pub within : (at : ℕ) → getD l at 0 ≤ i
+  pub rises : (at : ℕ) → 0 < getD l at 0 → at < b + 2 * (getD l at 0 - 1)
+  pub leads : (k : ℕ) → k < i → (at : ℕ) × Down b l (recordIn j k .number) at × (getD l at 0 ≡ k + 1)
+
+pub record Comes (b : ℕ) (j l : List ℕ) (e at : ℕ) : Type 0 where
+  pub down : Down b l e at
+  pub others : (c : ℕ) → c < down .steps → recordIn j (getD l (linkOf b l e c) 0 - 1) .number ≡ e → ⊥
+  pub own : 0 < getD l at 0 → recordIn j (getD l at 0 - 1) .number ≡ e
 
 unfoldable pub heldIn : List ℕ → ℕ → ℕ → JournalRecord
 heldIn j e zero = recordFor 0 0 0

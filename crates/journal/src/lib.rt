@@ -16,7 +16,7 @@ ghost use Rattle.chain.specs.Cells.{Ordered};
 ghost use Rattle.chain.specs.Tables.{Empty};
 ghost use Rattle.accept.specs.Rules.{slotAt};
 ghost use Rattle.journal.specs.Journals.{recordIn, total, inUse, slotUsed, isFull, appended, looked, Reach};
-ghost use Rattle.journal.specs.Passes.{bucketOf, lastIn, Chained, judged};
+ghost use Rattle.journal.specs.Passes.{bitsOf, Linked, Comes, judged};
 
 // What a look into a journal for an edit number answers. `used` is the number of records in use.
 pub enum Look {
@@ -61,47 +61,49 @@ fn slot_used(m: &[u8], order: &[u32], n: usize, s: u32) -> bool
     t.len != 0
 }
 
-// The bucket that a number falls in: the high bits of a product in which near numbers lie far apart.
-fn bucket_of(number: u32, buckets: usize) -> usize
-    requires { ⌜ (0 < buckets) × (buckets ≤ 65536) ⌝ }
-    ensures { λ r. ⌜ r ≡ bucketOf buckets number ⌝ }
+// The spread of a number over so many trees: its whole part, over 4,294,967,296, is the tree. In the rest near numbers lie far apart.
+fn spread(number: u32, trees: usize) -> u64
+    requires { ⌜ (0 < trees) × (trees ≤ 65536) ⌝ }
+    ensures { λ r. ⌜ r ≡ bitsOf trees number 0 ⌝ }
 {
-    (number as u64 * 2654435769 % 4294967296 * (buckets as u64) / 4294967296) as usize
+    number as u64 * 2654435769 % 4294967296 * (trees as u64)
 }
 
-// Whether one of the chained records has a number. The chain of its bucket begins with `from`, and the last record comes first.
-fn stands_before(j: &[u8], earlier: &[u16], from: u16, number: u32) -> bool
-    requires { ⌜ ((b : ℕ) × Chained b (now j) (now earlier) × (from ≡ lastIn b (now j) (bucketOf b number) (length (now earlier)))) ⌝ }
-    ensures { λ r. ⌜ r ≡ any (λ (k : ℕ). eqb (recordIn (now (j .entry)) k .number) number) (length (now (earlier .entry))) ⌝ }
+// The link that a number comes to: that of the record which has it, or one that leads to none. It goes down its tree from the root, at each record to the first or
+// the second link below by the next bit of its spread.
+fn link_for(j: &[u8], links: &[u16], trees: usize, number: u32) -> usize
+    requires { ⌜ (0 < trees) × (trees ≤ 65536) × ((i : ℕ) × Linked trees (now j) (now links) i) ⌝ }
+    ensures { λ r. ⌜ Comes trees (now (j .entry)) (now (links .entry)) number r ⌝ }
 {
-    let mut at = from as usize;
-    while at != 0 {
-        let k = at - 1;
+    let mut bits = spread(number, trees);
+    let mut at = (bits / 4294967296) as usize;
+    while links[at] != 0 {
+        let k = links[at] as usize - 1;
         let r = record_in(j, k);
         if r.number == number {
-            return true;
+            return at;
         }
-        at = earlier[k] as usize;
+        bits = bits % 4294967296 * 2;
+        at = trees + 2 * k + (bits / 4294967296) as usize;
     }
-    false
+    at
 }
 
-// The records in use, judged in one pass. Those with one bucket form a chain: `heads` has the last of each, and `earlier` the one before each record. They are
-// counted from 1, with 0 where there is none. Both tables are lent: there are as many buckets as `heads` has entries, and `earlier` has an entry for each record.
+// The records in use, judged in one pass. They are put in trees, by their numbers: first among the links are the roots, then two for each record. A link is 0, or
+// counts records from 1. The links are lent, all 0.
 fn judge_records(
     j: &[u8],
     m: &[u8],
     order: &[u32],
     n: usize,
     e: u32,
-    heads: &mut [u16],
-    earlier: &mut [u16],
+    links: &mut [u16],
+    trees: usize,
 ) -> Judged
-    requires { ⌜ (length (now j) ≤ journalLimit) × Reach (now m) (now order) n × (0 < length (now heads)) × (length (now heads) ≤ 65536) × Empty (now heads) × (total (now j) ≤ length (now earlier)) ⌝ }
+    requires { ⌜ (length (now j) ≤ journalLimit) × Reach (now m) (now order) n × (0 < trees) × (trees ≤ 65536) × Empty (now links) × (trees + 2 * total (now j) ≤ length (now links)) ⌝ }
     ensures { λ r. ⌜ r ≡ judged (now (j .entry)) (now (m .entry)) n e ⌝ }
 {
     let all = j.len() / JournalRecord::SIZE;
-    let buckets = heads.len();
     let mut held = JournalRecord::new(0, 0, 0);
     let mut i = 0;
     while i < all {
@@ -115,13 +117,11 @@ fn judge_records(
         if !slot_used(m, order, n, r.slot) {
             return Judged::Bad;
         }
-        let bucket = bucket_of(r.number, buckets);
-        let last = heads[bucket];
-        if stands_before(j, &earlier[..i], last, r.number) {
+        let at = link_for(j, links, trees, r.number);
+        if links[at] != 0 {
             return Judged::Bad;
         }
-        earlier[i] = last;
-        heads[bucket] = (i + 1) as u16;
+        links[at] = (i + 1) as u16;
         if r.number == e {
             held = r;
         }
@@ -130,25 +130,22 @@ fn judge_records(
     Judged::Good { used: i, held }
 }
 
-// A journal with room for so few records gets small tables.
+// A journal with room for so few records gets few trees.
 const FEW: usize = 64;
 
-// The numbers of any other fall in so many buckets.
-const BUCKETS: usize = 8192;
+const MOST: usize = JournalRecord::LIMIT / JournalRecord::SIZE;
 
-// The records in use, judged with tables as large as the journal needs.
+// The records in use, judged with links as many as the journal needs: two trees and two links for each record.
 fn judge_journal(j: &[u8], m: &[u8], order: &[u32], n: usize, e: u32) -> Judged
     requires { ⌜ (length (now j) ≤ journalLimit) × Reach (now m) (now order) n ⌝ }
     ensures { λ r. ⌜ r ≡ judged (now (j .entry)) (now (m .entry)) n e ⌝ }
 {
     if j.len() <= JournalRecord::SIZE * FEW {
-        let mut heads = [0u16; 2 * FEW];
-        let mut earlier = [0u16; FEW];
-        return judge_records(j, m, order, n, e, &mut heads, &mut earlier);
+        let mut links = [0u16; 4 * FEW];
+        return judge_records(j, m, order, n, e, &mut links, 2 * FEW);
     }
-    let mut heads = [0u16; BUCKETS];
-    let mut earlier = [0u16; JournalRecord::LIMIT / JournalRecord::SIZE];
-    judge_records(j, m, order, n, e, &mut heads, &mut earlier)
+    let mut links = [0u16; 4 * MOST];
+    judge_records(j, m, order, n, e, &mut links, 2 * MOST)
 }
 
 // Whether the records from k on are all zero.
