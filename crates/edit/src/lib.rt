@@ -436,7 +436,7 @@ fn slot_for(version: u16, o: &[u8], at: u32) -> Slot
     }
 }
 
-// Whether the object of slot s is the offered one. The part of the map where it lies is handed on.
+// Whether the object of the slot at a place is the offered one. The part of the map where it lies is handed on.
 fn is_object(m: &[u8], used: usize, at: usize, o: &[u8]) -> bool
     requires { ⌜ (headerSize ≤ used) × (used ≤ mapLimit) × (used ≤ length (now m)) × (at + slotSize ≤ length (now m)) ⌝ }
     ensures { λ r. ⌜ r ≡ isObject (now (m .entry)) used (slotOf (now (m .entry)) at) (now (o .entry)) ⌝ }

@@ -1,4 +1,4 @@
--- The laws of the definitions in specs/, a file for each.
+-- The laws of the definitions in specs/, in files of the same names. Sizes and headers need none.
 pub mod Slots
 pub mod Objects
 pub mod Symbols

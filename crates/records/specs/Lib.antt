@@ -1,5 +1,5 @@
 -- The definitions that the contracts of `records` cite, and every crate above it.
---     Sizes         how many bytes each kind of record has, and the limits of document 01
+--     Sizes         how many bytes each kind of record has, and how long a map and a journal may be
 --     Headers       the header's fields
 --     Slots         a slot's fields, its state, its bytes, its pair count and its object's bytes
 --     Objects       an object's header, and the least rectangle over its first pairs

@@ -1,4 +1,4 @@
--- How many bytes each kind of record has, each written once, and the limits of document 01.
+-- How many bytes each kind of record has, a window, an object at most, and a page of the tables of blocks; and how long a map and a journal may be.
 use Prim.Native.Nat.{ℕ}
 
 -- the header
