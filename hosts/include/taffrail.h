@@ -12,8 +12,8 @@
  *   place           where the fault is stored in the map, for refusals 4 to 7; else 0
  *
  * The numbers: 1 length, 2 mark, 3 version, 4 setup or info, 5 index block, 6 symbol block or record, 7 live slot, 8 window, 9 list too short, 10 object
- * malformed, 11 no room in the buffer or over 16,777,216 bytes, 12 slot missing or not in the state wanted, 13 journal malformed or edit number 0, 14 number
- * held by another edit, 15 journal full.
+ * malformed, 11 no room in the buffer or over 16,777,216 bytes, 12 slot missing or not in the state wanted, or reinstating refused, 13 journal malformed or
+ * edit number 0, 14 number held by another edit, 15 journal full.
  */
 #ifndef TAFFRAIL_H
 #define TAFFRAIL_H

@@ -1,8 +1,12 @@
-"""The worked cases T1 to T66 as data, with answers worked out from document 01.
+"""The worked cases as data, with answers worked out from document 01.
+
+The numbers of the cases are this project's own: T1 to T29 are of the check, T30 to T36 of the
+search, T37 and T38 of the search program, T40 to T65 of the edits. `crates/vectors/make` has
+the same numbers for cases of the same rules.
 
 `run(lib)` takes any object that has the calls of `model` and returns what differs. A case is
 a map, a call and the answer; an edit's answer also says which bytes are put where, and every
-other lent byte has to stay. So T66 ("any refusal changes nothing") holds in every edit.
+other lent byte has to stay. So that a refusal changes no lent byte is tested in every edit.
 """
 
 from __future__ import annotations

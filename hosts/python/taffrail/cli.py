@@ -1,9 +1,9 @@
 """The command line: ``python3 -m taffrail COMMAND ...`` on files.
 
 Exit codes: 0 for done, done before, accepted, found and listed; 1 for refused; 2 for wrong
-usage and for files that cannot be used. With --json every command writes one JSON object to
-standard output, refusals and file problems too. Files are opened, locked and saved by the
-module ``store``; a refusal writes nothing.
+usage and for files that cannot be used; 130 for an interrupt. With --json every command writes
+one JSON object to standard output, refusals and file problems too. Files are opened, locked and
+saved by the module ``store``; a refusal writes nothing.
 """
 
 from __future__ import annotations
