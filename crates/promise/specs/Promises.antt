@@ -1,5 +1,6 @@
--- The customer's third demand, sentence by sentence, as statements over runs. Each is proved in proofs/ under the same name in small letters. A
--- state is good when its map is accepted and its journal well formed for it; calls may carry any numbers and bytes that a machine can send.
+-- The customer's third demand (README.md, "The three demands"), sentence by sentence, as statements over runs. The quoted sentences are its words. Each is
+-- proved in proofs/ under the same name in small letters. A state is good when its map is accepted and its journal well formed for it; calls may carry any
+-- numbers and bytes that a machine can send.
 use Prim.Native.Nat.{ℕ, _+_, _-_, _*_, _/_, _≤_, _<_}
 use mathlib.Core.Bool.{true, false}
 use mathlib.Core.Path.{_≡_}
@@ -78,7 +79,7 @@ EditByEdit = (st : State) (c : Call) → Good st → Sent c → isDone st c ≡ 
 abbrev pub SlotBytes : Type 0
 SlotBytes = (m : List ℕ) (p : ℕ) → Bytes m → p + slotSize ≤ length m → slotBytes (slotOf m p) ≡ take slotSize (drop p m)
 
--- ---- and so equal contents are equal "byte for byte": of a slot that exists in two good states, the 24 bytes at its place, and its object's bytes
+-- ---- and so equal contents are equal byte for byte: of a slot that exists in two good states, the 24 bytes at its place, and its object's bytes
 abbrev pub slotPart : List ℕ → ℕ → List ℕ
 slotPart m s = take slotSize (drop (slotAt m s) m)
 
