@@ -2,7 +2,7 @@
 
 use crate::calls::{Call, Lent, Offered, LIBRARY};
 use crate::maps::{self, Map};
-use crate::measure::{checks_in_turn, run, Effort, Row, Want};
+use crate::measure::{checks_in_turn, run, run_on, Effort, Row, Want};
 use crate::report::{grouped, print_group, print_row};
 
 /// Bytes of objects before each block of a full map: 2,000 such blocks fit the limit.
@@ -13,6 +13,11 @@ pub const GROWTH: [usize; 4] = [250, 500, 1_000, 2_000];
 
 /// The row whose count the page tells.
 pub const SMALL_WINDOW: &str = "small window, 2,000 blocks";
+
+/// The row in which each side has a journal of its own.
+const AGAINST_EACH: &str = "remove: numbers chosen against each side, 20 blocks";
+/// What the library and the baseline multiply a number by, to find its place in a table by the high bits.
+const SPREADS: [u32; 2] = [2_654_435_769, 0x9E37_79B1];
 
 const CHECK: &str = "Check";
 const SEARCH: &str = "Search";
@@ -173,7 +178,11 @@ impl Bench {
         let lent = lend(&map, colliding);
         self.row(WORST, "remove: numbers equal modulo 16,384, 20 blocks", lent, remove.clone(), Want::Done);
         let lent = lend(&map, maps::journal(4_095, last, maps::mixed_numbers()));
-        self.row(WORST, "remove: numbers in no order, 20 blocks", lent, remove, Want::Done);
+        self.row(WORST, "remove: numbers in no order, 20 blocks", lent, remove.clone(), Want::Done);
+        let against = |spread| lend(&map, maps::journal(4_095, last, maps::numbers_against(spread)));
+        let lents = SPREADS.map(against).into();
+        let row = run_on(WORST, AGAINST_EACH, lents, remove, Want::Done, &self.effort);
+        self.take(row);
 
         let pairs: Vec<(i32, i32)> = (0..32_768).map(|i| (i, -i)).collect();
         let object = maps::object(101, &pairs, pairs.len());

@@ -294,6 +294,15 @@ pub fn slot_of(i: usize, slots: usize) -> usize {
     i * 7_919 % slots
 }
 
+/// Numbers whose products with an odd number are 1, 2, 3 and so on, so that the high bits of these are alike.
+pub fn numbers_against(spread: u32) -> impl FnMut(usize) -> u32 {
+    // each step doubles the low bits in which `inverse` is right
+    let inverse = (0..5).fold(spread, |inverse: u32, _| {
+        inverse.wrapping_mul(2u32.wrapping_sub(spread.wrapping_mul(inverse)))
+    });
+    move |i| (i as u32 + 1).wrapping_mul(inverse)
+}
+
 /// Numbers other than 0, no two of them equal, in no order.
 pub fn mixed_numbers() -> impl FnMut(usize) -> u32 {
     let mut random = Random(11);

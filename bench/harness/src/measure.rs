@@ -38,6 +38,8 @@ impl Row {
     }
 }
 
+const SIDES: [&Side; 2] = [&LIBRARY, &BASELINE];
+
 /// So many bytes are written before a cold start.
 const ELSEWHERE: usize = 64 << 20;
 
@@ -51,43 +53,76 @@ pub struct Effort {
 /// A sample of quick calls takes about this long, so that the clock's own steps don't show.
 const SAMPLE_NS: f64 = 20_000.0;
 
-/// Stops the program if the sides differ in an answer or a byte.
-pub fn run(group: &'static str, name: &str, lent: Lent, mut call: Call, want: Want, effort: &Effort) -> Row {
-    let (answer, after) = compare(name, &lent, &call, want);
-    let changes = Changes::between(&lent, &after);
-    let mut work = after;
-    changes.undo(&mut work);
+/// An input that is lent over and over: what a call changes is put back outside the timing.
+struct Input {
+    lent: Lent,
+    work: Lent,
+    changes: Changes,
+}
 
-    // what a call changes is put back outside the timing
-    let mut sample = |side: &Side, call: &Call, batch: usize| -> f64 {
-        let time = timed(side, call, &mut work, batch);
+impl Input {
+    /// Stops the program if the sides differ in an answer or a byte.
+    fn new(name: &str, lent: Lent, call: &Call, want: Want) -> (Answer, Input) {
+        let (answer, after) = compare(name, &lent, call, want);
+        let changes = Changes::between(&lent, &after);
+        let mut work = after;
         changes.undo(&mut work);
-        time
-    };
-    let mut warm = || sample(&LIBRARY, &call, 1).max(sample(&BASELINE, &call, 1));
-    let once = (0..3).map(|_| warm()).fold(f64::MAX, f64::min).max(1.0);
-    let batch = if changes.none() { (SAMPLE_NS / once).ceil() as usize } else { 1 };
+        (answer, Input { lent, work, changes })
+    }
 
-    let (mut library, mut baseline) = (Vec::new(), Vec::new());
+    fn sample(&mut self, side: &Side, call: &Call, batch: usize) -> f64 {
+        let time = timed(side, call, &mut self.work, batch);
+        self.changes.undo(&mut self.work);
+        time
+    }
+
+    fn is_put_back(&self) -> bool {
+        self.work.map == self.lent.map && self.work.journal == self.lent.journal
+    }
+}
+
+/// Both sides on one input.
+pub fn run(group: &'static str, name: &str, lent: Lent, call: Call, want: Want, effort: &Effort) -> Row {
+    run_on(group, name, vec![lent], call, want, effort)
+}
+
+/// The library on the first input and the baseline on the last, where what costs the one most does not
+/// cost the other most.
+pub fn run_on(
+    group: &'static str,
+    name: &str,
+    lents: Vec<Lent>,
+    mut call: Call,
+    want: Want,
+    effort: &Effort,
+) -> Row {
+    let made = lents.into_iter().map(|lent| Input::new(name, lent, &call, want));
+    let (answers, mut inputs): (Vec<Answer>, Vec<Input>) = made.unzip();
+    let last = inputs.len() - 1;
+    let mut sample = |who: usize, call: &Call, batch| inputs[who.min(last)].sample(SIDES[who], call, batch);
+    let mut warm = || sample(0, &call, 1).max(sample(1, &call, 1));
+    let once = (0..3).map(|_| warm()).fold(f64::MAX, f64::min).max(1.0);
+    let quick = inputs.iter().all(|input| input.changes.none());
+    let batch = if quick { (SAMPLE_NS / once).ceil() as usize } else { 1 };
+
+    let mut sample = |who: usize, call: &Call| inputs[who.min(last)].sample(SIDES[who], call, batch);
+    let mut samples = [Vec::new(), Vec::new()];
     let start = Instant::now();
     let mut order = Random(1);
-    while library.len() < effort.least_pairs
-        || (library.len() < effort.most_pairs && start.elapsed() < effort.budget)
+    while samples[0].len() < effort.least_pairs
+        || (samples[0].len() < effort.most_pairs && start.elapsed() < effort.budget)
     {
         // who is first changes at random, so as not to keep step with other programs
-        if order.below(2) == 0 {
-            library.push(sample(&LIBRARY, &call, batch));
-            baseline.push(sample(&BASELINE, &call, batch));
-        } else {
-            baseline.push(sample(&BASELINE, &call, batch));
-            library.push(sample(&LIBRARY, &call, batch));
+        let first = order.below(2) as usize;
+        for who in [first, 1 - first] {
+            samples[who].push(sample(who, &call));
         }
         call.shift();
     }
     // else a call was timed on a map that an earlier one had changed
-    assert!(work.map == lent.map && work.journal == lent.journal, "{name}: not put back");
-    let (library, baseline) = (times(library), times(baseline));
-    Row { group, name: name.to_string(), answer, library, baseline }
+    assert!(inputs.iter().all(Input::is_put_back), "{name}: not put back");
+    let [library, baseline] = samples.map(times);
+    Row { group, name: name.to_string(), answer: answers[0], library, baseline }
 }
 
 /// Checks of several maps, one after the other and over and over, so that what else the machine does
@@ -104,7 +139,7 @@ pub fn checks_in_turn(group: &'static str, maps: Vec<(String, Lent)>, effort: &E
         || (samples[0][0].len() < rounds.end && start.elapsed() < effort.budget * maps.len() as u32)
     {
         for ((_, lent), samples) in maps.iter_mut().zip(&mut samples) {
-            for (side, samples) in [&LIBRARY, &BASELINE].into_iter().zip(samples) {
+            for (side, samples) in SIDES.into_iter().zip(samples) {
                 black_box(&mut elsewhere)
                     .iter_mut()
                     .step_by(64)
