@@ -653,8 +653,9 @@ def good_records(rng: Random, made: Made, count: int) -> list[bytes]:
     taken = made.taken
     numbers = list(dict.fromkeys(draw_number(rng) for _ in range(count)))
     if count > 20:
-        stride = rng.choice((1, 3, 2**16, 1_000_003))
-        numbers = [stride * (number + 1) for number in range(count)]
+        # by the last of these all numbers stand in one tree (DECISIONS, J6)
+        stride = rng.choice((1, 3, 2**16, 1_000_003, pow(2_654_435_769, -1, 2**32)))
+        numbers = [stride * (number + 1) % 2**32 for number in range(count)]
         rng.shuffle(numbers)
     if not taken:
         return []
