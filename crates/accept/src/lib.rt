@@ -13,7 +13,6 @@ use records::ObjectHeader;
 use records::Part;
 use records::Slot;
 use records::SymbolBlock;
-use records::SymbolRecord;
 use records::bytes_in;
 use records::bytes_in_range;
 use records::pair_good;

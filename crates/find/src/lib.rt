@@ -133,7 +133,7 @@ fn select_slots(m: &[u8], used: usize, n: usize, state: State, w: Window, list: 
 }
 
 // How many of them there are: the same loop, on a list with no entry.
-pub fn count_slots(m: &[u8], used: usize, n: usize, state: State, w: Window) -> usize
+fn count_slots(m: &[u8], used: usize, n: usize, state: State, w: Window) -> usize
     requires { ⌜ (headerSize ≤ used) × (used ≤ mapLimit) × (used ≤ length (now m)) × (walked (indexRule (now m)) (now m) used ≡ Blocks n) ⌝ }
     ensures { λ r. ⌜ r ≡ length (selected (now (m .entry)) n state w) ⌝ }
 {

@@ -5,7 +5,7 @@ ghost use lib.ListN.{length, replicate};
 ghost use lib.Seq.{sets};
 ghost use lib.Signed.{leZ};
 ghost use Rattle.numbers.specs.Bytes.{u16At, u32At, bytesOf, sameBytes, Zeros, Alike, Tells};
-ghost use Rattle.numbers.specs.Coordinates.{signed16, signed32, valueOf, unmarked, signFlipped};
+ghost use Rattle.numbers.specs.Coordinates.{signed32, valueOf, unmarked, signFlipped};
 ghost use Rattle.numbers.specs.Ranges.{share};
 
 // ---- little-endian numbers
@@ -117,17 +117,6 @@ pub fn without_marks(raw: u32) -> u32
     ensures { λ r. ⌜ r ≡ unmarked raw ⌝ }
 {
     raw / 256 * 256
-}
-
-// The signed number of sixteen bits.
-pub fn signed16_of(n: u16) -> i32
-    ensures { λ r. ⌜ r ≡ signed16 n ⌝ }
-{
-    if n < 32768 {
-        n as i32
-    } else {
-        -1 - ((65535 - n) as i32)
-    }
 }
 
 // The signed number of thirty-two bits.

@@ -14,7 +14,6 @@ ghost use mathlib.Core.Bool.{true, cond};
 ghost use Prim.Native.Nat.{_+_, _-_, _*_, _≤_, _<_};
 ghost use lib.ListN.{length};
 ghost use lib.Seq.{sets};
-ghost use Rattle.numbers.specs.Bytes.{u16At};
 ghost use Rattle.numbers.specs.Coordinates.{unmarked};
 ghost use Rattle.records.specs.Sizes.{headerSize, slotSize, objectHeaderSize, pairSize, windowSize, journalRecordSize};
 ghost use Rattle.records.specs.Headers.{headerOf, partOf, pairGood};
@@ -505,16 +504,6 @@ pub struct SymbolRecord {
 impl SymbolRecord {
     // The least Size: the part that all symbols have.
     pub const SIZE: u16 = 348;
-
-    // The record that starts a part.
-    pub fn of(part: &[u8]) -> SymbolRecord
-        requires { ⌜ 2 ≤ length (now part) ⌝ }
-        ensures { λ r. ⌜ r .size ≡ u16At (now (part .entry)) 0 ⌝ }
-    {
-        SymbolRecord {
-            size: u16_at(part, 0),
-        }
-    }
 }
 
 // ---- journal records
