@@ -55,10 +55,14 @@ impl Bench {
     }
 
     fn search(&mut self, group: &'static str, name: &str, map: &Map, half: i32) {
+        self.search_into(group, name, map, half, map.slots(), Want::Done);
+    }
+
+    fn search_into(&mut self, group: &'static str, name: &str, map: &Map, half: i32, room: usize, want: Want) {
         let window = [-half, -half, half, half];
         let mut lent = lend(map, Vec::new());
-        lent.list = vec![0xEEEE_EEEE; map.slots()];
-        self.row(group, name, lent, Call::Search { window }, Want::Done);
+        lent.list = vec![0xEEEE_EEEE; room];
+        self.row(group, name, lent, Call::Search { window }, want);
     }
 
     pub fn all(&mut self) {
@@ -92,6 +96,12 @@ impl Bench {
         let map = maps::full(8, 2_000, ROOM);
         self.search(SEARCH, SMALL_WINDOW, &map, 1_000);
         self.search(SEARCH, "all-covering window, 2,000 blocks", &map, i32::MAX);
+        let short = "small window, 2,000 blocks, room for 100";
+        self.search_into(SEARCH, short, &map, 1_000, 100, Want::Done);
+        let none = "all-covering window, 2,000 blocks, no room (9)";
+        self.search_into(SEARCH, none, &map, i32::MAX, 0, Want::Refused(9));
+        let short = "all-covering window, 2,000 blocks, room for all but one (9)";
+        self.search_into(SEARCH, short, &map, i32::MAX, map.slots() - 1, Want::Refused(9));
     }
 
     /// Edits on a map that has just begun, under journals without a record.

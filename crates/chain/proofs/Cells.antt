@@ -1,21 +1,19 @@
--- The laws of the cells: cell c stands in block c / 256, past its link and before its end, so no two cells share a byte; and where the next cell stands.
--- Assumes nothing.
-use Prim.Native.Nat.{ℕ, zero, suc, _+_, _-_, _*_, _/_, _%_, _≤_, _<_}
+-- The laws of the cells: cell c stands in block c / 256, past its link and before its end, so no two cells share a byte. Assumes nothing.
+use Prim.Native.Nat.{ℕ, zero, suc, _+_, _*_, _/_, _%_, _≤_, _<_}
 use mathlib.Core.Path.{_≡_, ap, _∙_}
 use mathlib.Core.Logic.{_⊎_, inl, inr, ⊎-elim}
 use mathlib.Core.List.{List}
 use borrow.Author.Count.{below-more}
 use native.Mathlib.Decide.{ℕ-discrete}
-use native.Mathlib.Nat.{add-zero, mul-zero, mul-le-mul-left, mul-add, mul-one}
+use native.Mathlib.Nat.{mul-le-mul-left, mul-add, mul-one}
 use native.Mathlib.Omega.{arith}
 use lib.ListN.{getD, set, length}
 use lib.Seq.{getD-set-same, getD-set-other}
-use Rattle.numbers.specs.Bytes.{u32At}
 use Rattle.numbers.proofs.Coordinates.{lt-or-ge}
 use Rattle.records.specs.Sizes.{headerSize}
 use Rattle.chain.specs.Chains.{Rule, place, block}
 use Rattle.chain.specs.Cells.{cellIn, cellAt, Ordered}
-use Rattle.chain.proofs.Chains.{Pass, apart, place-suc, block-more}
+use Rattle.chain.proofs.Chains.{Pass, apart, place-suc}
 
 -- cell j of block k, by its number
 pub cell-no : (h w : ℕ) (m : List ℕ) (k j : ℕ) → j < 256 → cellAt h w m (256 * k + j) ≡ cellIn (block h m k) w j
@@ -25,37 +23,9 @@ cell-no h w m k j l =
     let s : (256 * k + j) % 256 ≡ j = omega arith in
     rw (q, s)
 
--- the first cell of a block, and the first of all
-pub cell-first : (h w : ℕ) (m : List ℕ) (k : ℕ) → cellAt h w m (256 * k) ≡ block h m k + 4
-unfolding cellIn
-cell-first h w m k = simp (add-zero, mul-zero) at (cell-no h w m k 0 (omega arith))
-
-pub cell-zero : (h w : ℕ) (m : List ℕ) → cellAt h w m 0 ≡ block h m 0 + 4
-cell-zero h w m = cell-first h w m 0
-
 -- w more for each cell
 mul-more : (w i j : ℕ) → i < j → w * i + w ≤ w * j
 mul-more w i j l = omega (arith, mul-le-mul-left w l, mul-add w i 1, mul-one w)
-
--- ---- the next cell: in the same block, or the first of the next
-
-pub cell-same : (h w : ℕ) (m : List ℕ) (c : ℕ) → (c % 256 ≡ 255 → ⊥) → cellAt h w m (c + 1) ≡ cellAt h w m c + w
-unfolding cellAt cellIn
-cell-same h w m c ne =
-    let q : (c + 1) / 256 ≡ c / 256 = omega arith in
-    let s : (c + 1) % 256 ≡ c % 256 + 1 = omega arith in
-    rw (q, s, mul-add w (c % 256) 1) (omega arith)
-
--- the link of the block stands 255 cells and 4 bytes before its last cell
-pub cell-link : (h w : ℕ) (m : List ℕ) (c : ℕ) → c % 256 ≡ 255 → cellAt h w m c ≡ block h m (c / 256) + 4 + 255 * w
-unfolding cellAt cellIn
-cell-link h w m c e = rw e (omega arith)
-
-pub cell-next : (h w : ℕ) (m : List ℕ) (c : ℕ) → c % 256 ≡ 255 → cellAt h w m (c + 1) ≡ u32At m (cellAt h w m c - 255 * w - 4) + 4
-cell-next h w m c e =
-    let q : c + 1 ≡ 256 * (c / 256 + 1) = omega arith in
-    let b : cellAt h w m c - 255 * w - 4 ≡ block h m (c / 256) = omega (arith, cell-link h w m c e) in
-    rw (b, ← block-more h m (c / 256), q) (cell-first h w m (c / 256 + 1))
 
 -- ---- where the cells of blocks that pass lie
 
@@ -104,10 +74,6 @@ module _ {r : Rule} {m : List ℕ} {used n : ℕ} (h : Pass r m used n) (w : ℕ
         | yes e ↦ inl (omega (arith, ap (block (r .head) m) e))
         | no e ↦ ⊎-elim (λ y. inl (omega arith)) (λ y. inr (omega arith)) (apart h k (c / 256) g (omega arith) e)
       ]
-
--- what `next_cell` asks
-pub next-ready : {r : Rule} {m : List ℕ} {used w c at : ℕ} → Lies r m used w c → used ≤ length m → w ≤ 256 → at ≡ cellAt (r .head) w m c → (at ≤ length m) × (w ≤ 256) × (c % 256 ≡ 255 → 4 + 255 * w ≤ at)
-next-ready {r} {m} {used} {w} {c} h l v e = (omega (arith, h .high), v, λ f. omega (arith, cell-link (r .head) w m c f))
 
 -- ---- the blocks in their order
 

@@ -2,11 +2,11 @@
 use numbers::u32_at;
 use records::Header;
 ghost use mathlib.Core.Path.{_≡_};
-ghost use Prim.Native.Nat.{ℕ, _+_, _-_, _*_, _%_, _≤_, _<_};
+ghost use Prim.Native.Nat.{ℕ, _+_, _-_, _*_, _≤_, _<_};
 ghost use lib.ListN.{length, getD};
 ghost use Rattle.chain.specs.Chains.{block, walked, taken};
 ghost use Rattle.chain.specs.Tables.{Empty, Placed, Table, Carried, Filled, entryMeets, tableMeets, endsMeet, keepsOff, kindRule, goodBlock, Bounds, Ready};
-ghost use Rattle.chain.specs.Cells.{cellAt, Ordered};
+ghost use Rattle.chain.specs.Cells.{Ordered};
 
 // What a walk answers: the number of blocks; or the place of the first link at fault, and the number of blocks before it.
 pub enum Walk {
@@ -156,17 +156,6 @@ pub fn walk_chain(m: &[u8], used: usize, kind: Kind, other: &[u32], t: &mut [u32
             };
         }
     }
-}
-
-// Where the cell after cell c stands: in the same block, or first in the block that the link points to.
-pub fn next_cell(m: &[u8], at: usize, c: usize, width: usize) -> usize
-    requires { ⌜ (at ≤ length (now m)) × (width ≤ 256) × (c % 256 ≡ 255 → 4 + 255 * width ≤ at) ⌝ }
-    ensures { λ r. ⌜ ((h : ℕ) → at ≡ cellAt h width (now (m .entry)) c → r ≡ cellAt h width (now (m .entry)) (c + 1)) ⌝ }
-{
-    if c % 256 != 255 {
-        return at + width;
-    }
-    wide(u32_at(m, at - 255 * width - 4)) + 4
 }
 
 // The blocks of a chain in their order, so that a cell is found in one step.

@@ -3,6 +3,7 @@
 --                                             needed, every count in a refusal is 0
 --     checkedLength m used       a length that is checked against the limits and the buffer; else 0, which no map has
 --     wantedAt m k w p           whether the slot at place p is in state k and its rectangle meets the window; wantedIn m k w s: slot s
+--     SlotsOf m b first          the 256 slots from number `first` on are those of the block at b
 --     liveIn m w s               whether slot s is live and its rectangle meets the window
 --     slotsFor test n            the slots of n index blocks that pass a test, ascending, each once
 --     selected m n k w           those that are in state k and meet the window
@@ -10,7 +11,7 @@
 --     answerFor, answerOf        1 to 7 as the check has them; 8: left > right or bottom > top; 9: the list is shorter than the count
 --     In x l                     x stands in the list l
 --     listAfter m used w l       what the lent list holds afterwards: the slots found in its first entries and the rest as it was; after a refusal all as it was
-use Prim.Native.Nat.{ℕ, _*_, _<_}
+use Prim.Native.Nat.{ℕ, _+_, _*_, _<_}
 use mathlib.Core.Bool.{Bool, cond, _&&_}
 use mathlib.Core.Path.{_≡_}
 use mathlib.Core.List.{List}
@@ -18,11 +19,13 @@ use lib.Dec.{ltb}
 use lib.ListN.{length, getD}
 use lib.Seq.{sets}
 use Rattle.numbers.specs.Below.{sel}
+use Rattle.records.specs.Sizes.{slotSize}
 use Rattle.records.specs.declared.Window.{Window}
 use Rattle.records.specs.declared.State.{State}
 use Rattle.records.specs.declared.State.the-variants.{Live}
 use Rattle.records.specs.Slots.{slotOf, stateOf, sameState}
 use Rattle.records.specs.Windows.{windowGood, meetsWindow}
+use Rattle.chain.specs.Cells.{cellIn}
 use Rattle.accept.specs.declared.Verdict.{Verdict}
 use Rattle.accept.specs.declared.Verdict.the-variants as verdicts
 use Rattle.accept.specs.Rules.{slotAt}
@@ -59,6 +62,9 @@ wantedAt m k w p = sameState k (stateOf (slotOf m p)) && meetsWindow (slotOf m p
 
 abbrev pub wantedIn : List ℕ → State → Window → ℕ → Bool
 wantedIn m k w s = wantedAt m k w (slotAt m s)
+
+abbrev pub SlotsOf : List ℕ → ℕ → ℕ → Type 0
+SlotsOf m b first = (j : ℕ) → j < 256 → slotAt m (first + j) ≡ cellIn b slotSize j
 
 abbrev pub liveIn : List ℕ → Window → ℕ → Bool
 liveIn m w s = wantedIn m Live w s

@@ -1,6 +1,5 @@
-// The search by rectangle: one loop over the slots, which counts and lists.
+// The search by rectangle: one look at the slots, block by block, which counts and lists.
 use accept::Verdict;
-use chain::next_cell;
 use numbers::u32_at;
 use records::Header;
 use records::Slot;
@@ -11,14 +10,16 @@ use records::read_slot;
 use records::same_state;
 use records::window_good;
 ghost use mathlib.Core.Path.{_≡_};
-ghost use Prim.Native.Nat.{_+_, _*_, _≤_, _<_};
-ghost use lib.ListN.{length};
+ghost use Prim.Native.Nat.{ℕ, _+_, _*_, _≤_, _<_};
+ghost use mathlib.Core.List.{List};
+ghost use lib.ListN.{length, take};
 ghost use lib.Seq.{sets};
-ghost use Rattle.records.specs.Sizes.{headerSize, slotSize, mapLimit};
+ghost use Rattle.numbers.specs.Below.{sel};
+ghost use Rattle.records.specs.Sizes.{headerSize, indexBlockSize, slotSize, mapLimit};
 ghost use Rattle.chain.specs.Chains.{walked};
 ghost use Rattle.chain.specs.declared.Walk.the-variants.{Blocks};
 ghost use Rattle.accept.specs.Rules.{indexRule};
-ghost use Rattle.find.specs.Searches.{numberOf, placeOf, countOf, blocksOf, checkedLength, wantedAt, selected, answerOf, listAfter};
+ghost use Rattle.find.specs.Searches.{numberOf, placeOf, countOf, blocksOf, checkedLength, wantedAt, wantedIn, SlotsOf, selected, found, answerOf, listAfter};
 ghost use Rattle.find.specs.Inputs.{inputAnswer, inputList};
 
 // What a search answers: the count found and the blocks walked; or the count that the list is too short for; or a refusal.
@@ -111,34 +112,86 @@ fn wanted(m: &[u8], at: usize, state: State, w: Window) -> bool
     same_state(state, k) & meets_window(t, w)
 }
 
+// The slots of one index block, the first of which has number `first`, that are in a state and meet the window. So many were found before. Their numbers go to
+// the list behind those, as far as there is room, and all of them are counted.
+fn select_in_block(
+    m: &[u8],
+    block: usize,
+    first: usize,
+    state: State,
+    w: Window,
+    list: &mut [u32],
+    before: usize,
+) -> usize
+    requires { ⌜ (block + indexBlockSize ≤ length (now m)) × (first + 256 ≤ 4294967296) × SlotsOf (now m) block first × (before ≡ length (sel (wantedIn (now m) state w) first)) ⌝ }
+    ensures { λ r. ⌜ (r ≡ length (sel (wantedIn (now (m .entry)) state w) (first + 256))) × ((l : List ℕ) → now (list .entry) ≡ sets l 0 (sel (wantedIn (now (m .entry)) state w) first) → now (list .exit) ≡ sets l 0 (sel (wantedIn (now (m .entry)) state w) (first + 256))) ⌝ }
+{
+    let mut at = block + 4;
+    let mut count = before;
+    let mut s = first;
+    while s < first + 256 {
+        let hit = wanted(m, at, state, w);
+        if hit & (count < list.len()) {
+            list[count] = s as u32;
+        }
+        count += hit as usize;
+        at += Slot::SIZE;
+        s += 1;
+    }
+    count
+}
+
 // The slots of an accepted map's n index blocks that are in a state and meet the window: their numbers go to the list as far as there is room, and all of them
 // are counted.
 fn select_slots(m: &[u8], used: usize, n: usize, state: State, w: Window, list: &mut [u32]) -> usize
     requires { ⌜ (headerSize ≤ used) × (used ≤ mapLimit) × (used ≤ length (now m)) × (walked (indexRule (now m)) (now m) used ≡ Blocks n) ⌝ }
     ensures { λ r. ⌜ (r ≡ length (selected (now (m .entry)) n state w)) × (now (list .exit) ≡ sets (now (list .entry)) 0 (selected (now (m .entry)) n state w)) ⌝ }
 {
-    let mut at = u32_at(m, Header::INDEX) as usize + 4;
-    let mut s = 0;
+    let mut at = u32_at(m, Header::INDEX) as usize;
     let mut count = 0;
-    while s < 256 * n {
-        let hit = wanted(m, at, state, w);
-        if hit & (count < list.len()) {
-            list[count] = s as u32;
-        }
-        count += hit as usize;
-        at = next_cell(m, at, s, Slot::SIZE);
-        s += 1;
+    let mut k = 0;
+    while k < n {
+        count = select_in_block(m, at, 256 * k, state, w, list, count);
+        at = u32_at(m, at) as usize;
+        k += 1;
     }
     count
 }
 
-// How many of them there are: the same loop, on a list with no entry.
-fn count_slots(m: &[u8], used: usize, n: usize, state: State, w: Window) -> usize
-    requires { ⌜ (headerSize ≤ used) × (used ≤ mapLimit) × (used ≤ length (now m)) × (walked (indexRule (now m)) (now m) used ≡ Blocks n) ⌝ }
-    ensures { λ r. ⌜ r ≡ length (selected (now (m .entry)) n state w) ⌝ }
+// The first n entries of one list, over those of another.
+fn copy_first(list: &mut [u32], few: &[u32], n: usize)
+    requires { ⌜ (n ≤ length (now few)) × (n ≤ length (now list)) ⌝ }
+    ensures { λ r. ⌜ now (list .exit) ≡ sets (now (list .entry)) 0 (take n (now (few .entry))) ⌝ }
 {
-    let mut none = [0u32; 0];
-    select_slots(m, used, n, state, w, &mut none)
+    let mut i = 0;
+    while i < n {
+        list[i] = few[i];
+        i += 1;
+    }
+}
+
+// So many slots are kept while they are counted.
+const FEW: usize = 256;
+
+// The live slots that meet the window, listed where the list has room for all of them, and counted. A list that may be too short is not written to before the
+// slots are counted; where they are few, that is all it takes.
+fn list_found(m: &[u8], used: usize, n: usize, w: Window, list: &mut [u32]) -> usize
+    requires { ⌜ (headerSize ≤ used) × (used ≤ mapLimit) × (used ≤ length (now m)) × (walked (indexRule (now m)) (now m) used ≡ Blocks n) ⌝ }
+    ensures { λ r. ⌜ (r ≡ length (found (now (m .entry)) n w)) × (r ≤ length (now (list .entry)) → now (list .exit) ≡ sets (now (list .entry)) 0 (found (now (m .entry)) n w)) × (length (now (list .entry)) < r → now (list .exit) ≡ now (list .entry)) ⌝ }
+{
+    if 256 * n <= list.len() {
+        return select_slots(m, used, n, State::Live, w, list);
+    }
+    let mut few = [0u32; FEW];
+    let count = select_slots(m, used, n, State::Live, w, &mut few);
+    if list.len() < count {
+        return count;
+    }
+    if FEW < count {
+        return select_slots(m, used, n, State::Live, w, list);
+    }
+    copy_first(list, &few, count);
+    count
 }
 
 // The search. Any slice, any `used`, any window, any list.
@@ -155,16 +208,12 @@ pub fn search(m: &[u8], used: usize, w: Window, list: &mut [u32]) -> Answer
                     place: 0,
                 };
             }
-            // A 9 leaves the list as it was, so a list that may be too short is not written to before the slots are counted.
-            if list.len() < 256 * blocks {
-                let needed = count_slots(m, used, blocks, State::Live, w);
-                if list.len() < needed {
-                    return Answer::Short {
-                        count: needed as u32,
-                    };
-                }
+            let count = list_found(m, used, blocks, w, list);
+            if list.len() < count {
+                return Answer::Short {
+                    count: count as u32,
+                };
             }
-            let count = select_slots(m, used, blocks, State::Live, w, list);
             Answer::Found {
                 count: count as u32,
                 blocks: blocks as u32,

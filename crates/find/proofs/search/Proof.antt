@@ -1,9 +1,8 @@
--- `find::search` meets its contract: each of its ways out is a case of the answer, and an accepted map tells what the loops ask. Assumes nothing.
+-- `find::search` meets its contract: each of its ways out is a case of the answer, and an accepted map tells what the look at the slots asks. Assumes nothing.
 use native.Mathlib.Omega.{arith}
 use Prim.Native.Nat.{_*_, _≤_}
 use mathlib.Core.Bool.{true}
 use mathlib.Core.Path.{_≡_, sym, _∙_}
-use mathlib.Core.Logic.{⊎-elim}
 use lib.ListN.{length}
 use denote.Ref.{now}
 use borrow.Author.Tests.{not-true, not-false}
@@ -36,14 +35,6 @@ few c =
 good : (c : tie.Else1) → windowGood (c .before .before .before .before .before .before .before .before .args .w) ≡ true
 good c = sym (c .before .window-good .ensures) ∙ not-false _ (c .if1 .left)
 
--- the list has room for the slots found: it was counted, or there is an entry for every slot
-room : (c : tie.Joined2) → let v = c .before .before .before .before in let a = v .before .before .before .before .before .args in length (found (now (a .m)) (v .v2 .given .0 .0) (a .w)) ≤ length (now (a .list))
-room c =
-    ⊎-elim
-    (λ y. omega (arith, y .1 .ensures, y .2 .left))
-    (λ y. omega (arith, few (c .before .before .before .before), y .left))
-    (c .if2 .came)
-
 returns : tie.Need-returns
 returns c =
     let v = c .before .before .before in
@@ -51,19 +42,18 @@ returns c =
     answers (now (a .m)) (a .used) (a .w) (now (a .list))
     (answer-window (now (a .m)) (a .used) (a .w) (length (now (a .list))) (accepted v) (sym (c .before .window-good .ensures) ∙ not-true _ (c .if1 .taken)))
 
-count-slots-requires : tie.Need-count-slots-requires
-count-slots-requires c κs = let h = holds (c .before .before .before .before) in (h .low, h .limit, h .room, h .index)
+list-found-requires : tie.Need-list-found-requires
+list-found-requires c κs = let h = holds (c .before .before .before .before) in (h .low, h .limit, h .room, h .index)
 
 returns-2 : tie.Need-returns-2
 returns-2 c =
-    let k = c .before in
+    let k = c .before .before .before in
     let v = k .before .before .before .before .before in
     let a = v .before .before .before .before .before .args in
-    answers (now (a .m)) (a .used) (a .w) (now (a .list))
-    (answer-short (now (a .m)) (a .used) (a .w) (length (now (a .list))) (accepted v) (good (k .before .before)) (k .count-slots .ensures) (c .if3 .taken))
-
-select-slots-requires : tie.Need-select-slots-requires
-select-slots-requires c κs = let h = holds (c .before .before .before .before .before) in (h .low, h .limit, h .room, h .index)
+    let e = k .list-found .ensures in
+    let r = answers (now (a .m)) (a .used) (a .w) (now (a .list))
+    (answer-short (now (a .m)) (a .used) (a .w) (length (now (a .list))) (accepted v) (good (k .before .before)) (e .0) (omega (arith, c .if2 .taken))) in
+    (r .0, e .2 (omega (arith, c .if2 .taken)) ∙ r .1)
 
 returns-3 : tie.Need-returns-3
 returns-3 c =
@@ -73,14 +63,13 @@ returns-3 c =
 
 returns-4 : tie.Need-returns-4
 returns-4 c =
-    let k = c .before .before in
-    let j = k .before .before in
-    let v = j .before .before .before .before in
+    let k = c .before .before .before in
+    let v = k .before .before .before .before .before in
     let a = v .before .before .before .before .before .args in
-    let e = k .select-slots .ensures in
+    let e = k .list-found .ensures in
     let r = answers (now (a .m)) (a .used) (a .w) (now (a .list))
-    (answer-found (now (a .m)) (a .used) (a .w) (length (now (a .list))) (accepted v) (good (j .before)) (e .0) (omega (arith, e .0, room j))) in
-    (r .0, rw (e .1) (r .1))
+    (answer-found (now (a .m)) (a .used) (a .w) (length (now (a .list))) (accepted v) (good (k .before .before)) (e .0) (omega (arith, c .if2 .left))) in
+    (r .0, e .1 (omega (arith, c .if2 .left)) ∙ r .1)
 
 pub search-spec : {M : Type 1} → statement M
 search-spec =
@@ -91,12 +80,11 @@ search-spec =
     (λ c. search needs)
     (λ c κs. search needs)
     returns
-    (λ c. omega (arith, few (c .before .before .before)))
-    count-slots-requires
-    (λ c. omega (arith, few (c .before .before .before .before .before .before)))
+    list-found-requires
+    (λ c. let k = c .before .before .before in omega (arith, k .list-found .ensures .0, few (k .before .before .before .before .before)))
+    (λ c. search needs)
     returns-2
-    select-slots-requires
-    (λ c. let k = c .before .before in omega (arith, k .select-slots .ensures .0, few (k .before .before .before .before .before .before)))
+    (λ c. let k = c .before .before .before in omega (arith, k .list-found .ensures .0, few (k .before .before .before .before .before)))
     (λ c. omega (arith, few (c .before .before .before .before .before .before .before .before)))
     returns-3
     (λ c. search needs)
