@@ -106,6 +106,44 @@ class TheDocumentsExample(unittest.TestCase):
             self.assertEqual(layout.value(raw), value)
 
 
+class BetweenTwoCalls(unittest.TestCase):
+    """A search asks twice, and another thread may edit the map in between."""
+
+    def search_during(
+        self, used: int, map_buffer: bytearray, *edits: Callable[[], object]
+    ) -> object:
+        """A search with one of the edits after each of its first calls."""
+        answering, waiting = library.in_use(), list(edits)
+        search = answering.search
+
+        def busy(*given: Any) -> library.SearchAnswer:
+            answer = search(*given)
+            if waiting:
+                waiting.pop(0)()
+            return answer
+
+        with mock.patch.object(answering, "search", busy):
+            found = taffrail.search(map_buffer, 0, 0, 10, 10, used=used)
+        self.assertEqual(waiting, [])
+        return found
+
+    def test_the_count_changes(self) -> None:
+        m, j, used = with_bridge()
+        used += 80
+        self.assertEqual(taffrail.add(m, j, 2, object_bytes(), used=used - 80), Done(1, used - 40))
+        self.assertEqual(taffrail.add(m, j, 3, object_bytes(), used=used - 40), Done(2, used))
+        taffrail.remove(m, j, 4, 1, used=used)
+        taffrail.remove(m, j, 5, 2, used=used)
+
+        def again(edit: int, slot: int) -> Callable[[], object]:
+            return lambda: taffrail.reinstate(m, j, edit, slot, used=used)
+
+        found = self.search_during(used, m, again(6, 1), again(7, 2))
+        self.assertEqual(found, Found((0, 1, 2), 1))
+        found = self.search_during(used, m, lambda: taffrail.remove(m, j, 8, 0, used=used))
+        self.assertEqual(found, Found((1, 2), 1))
+
+
 class EveryVersion(unittest.TestCase):
     def test_edits(self) -> None:
         for version, size in ((6, 40), (7, 40), (8, 1)):

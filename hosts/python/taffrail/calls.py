@@ -64,12 +64,14 @@ def search(
     """Find the live slots whose rectangle meets the window, which is in 0.01 mm and closed.
 
     Answers ``Found(slots, blocks)`` or ``Refused``. The map is searched once with an empty
-    list to learn the count, and once more if the count isn't 0. The buffer is lent or copied
+    list to learn the count, and once more if the count isn't 0. Where another thread edits
+    the map in between and the count grows, it is searched again. The buffer is lent or copied
     as ``check`` says.
     """
     slots = array("I")
     answer = search_into(map_buffer, left, bottom, right, top, slots, used=used)
-    if not isinstance(answer, Listed) and answer.number == _LIST_TOO_SHORT:
+    # This ends: each list is longer than the one before, and a map's slots are limited.
+    while not isinstance(answer, Listed) and answer.number == _LIST_TOO_SHORT:
         slots = array("I", bytes(slots.itemsize * answer.needed))
         answer = search_into(map_buffer, left, bottom, right, top, slots, used=used)
     if isinstance(answer, Listed):
