@@ -69,6 +69,11 @@ def no_space(files: Files, name: str, given: Sequence[Any]) -> None:
     raise OSError(errno.ENOSPC, os.strerror(errno.ENOSPC))
 
 
+def broken(files: Files, name: str, given: Sequence[Any]) -> None:
+    """The disk does not answer."""
+    raise OSError(errno.EIO, os.strerror(errno.EIO))
+
+
 class Ended(NamedTuple):
     """How a child ended: by the cut, or with an exit code and what it wrote."""
 

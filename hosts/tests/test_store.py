@@ -19,6 +19,7 @@ from support_cut import (
     CountingFiles,
     Ended,
     Event,
+    broken,
     count_calls,
     cut,
     cut_after,
@@ -666,6 +667,72 @@ class Saving(FolderTest):
             self.object.write_bytes(object_bytes([(edit, edit)] * count))
             self.assertEqual(self.add_bridge(edit).code, 0)
         self.assertEqual(run("check", self.map).code, 0)
+
+
+class SavingTwice(FolderTest):
+    """A group is saved again after a save that failed. Nothing of the first save is lost."""
+
+    ZERO, ONE, TWO = (b"map 0", b"journal 0"), (b"map 1", b"journal 1"), (b"map 2", b"journal 2")
+
+    def begin(self) -> List[Wanted]:
+        names = (self.map, self.journal)
+        for name, content in zip(names, self.ZERO):
+            name.write_bytes(content)
+        return [Wanted(str(name), MOST) for name in names]
+
+    def calls_of_a_save(self, name: str) -> range:
+        """The calls of this name that a save makes, counted from the opening of the files."""
+        files = CountingFiles([name], 0, broken)
+        with Store(files).edit(*self.begin()) as group:
+            before = files.calls
+            group.save(*self.ONE)
+            return range(before + 1, files.calls + 1)
+
+    def save_twice(self, files: CountingFiles) -> bool:
+        """Saves once, which fails, and then again. Whether the first was said to be done."""
+        wanted = self.begin()
+        with Store(files).edit(*wanted) as group:
+            with self.assertRaises(FileProblem) as caught:
+                group.save(*self.ONE)
+            with self.assertRaisesRegex(FileProblem, "an earlier save .* failed"):
+                group.save(*self.TWO)
+        done = "the edit is done and kept in" in str(caught.exception)
+        seen = tuple(Store(wait=0).read(one) for one in wanted)
+        self.assertEqual(seen, self.ONE if done else self.ZERO)
+        return done
+
+    def assert_each_is_safe(self, name: str, done: int) -> None:
+        """Each call of this name fails in turn, so many of them when the edit is done."""
+        found = []
+        for chosen in self.calls_of_a_save(name):
+            with self.subTest(call=name, chosen=chosen):
+                found.append(self.save_twice(CountingFiles([name], chosen, broken)))
+        self.assertEqual(found, sorted(found))
+        self.assertEqual(sum(found), done)
+
+    def test_writes(self) -> None:
+        self.assert_each_is_safe("write", 2)
+
+    def test_syncs(self) -> None:
+        """After the rename: of the folder, of the two files, and after each of two removals."""
+        self.assert_each_is_safe("sync", 5)
+
+    def test_removals(self) -> None:
+        self.assert_each_is_safe("remove", 2)
+
+    def test_what_comes_before_the_edit_is_done(self) -> None:
+        for name in ("create", "rename", "set_owner", "set_mode"):
+            self.assert_each_is_safe(name, 0)
+
+    def test_the_files_opened_again(self) -> None:
+        """The next group has the first save's contents, and takes a save."""
+        chosen = self.calls_of_a_save("write")[-1]
+        self.save_twice(CountingFiles(["write"], chosen, broken))
+        wanted = [Wanted(str(name), MOST) for name in (self.map, self.journal)]
+        with Store(wait=0).edit(*wanted) as group:
+            self.assertEqual(tuple(group.contents), self.ONE)
+            group.save(*self.TWO)
+        self.assertEqual((self.map.read_bytes(), self.journal.read_bytes()), self.TWO)
 
 
 if __name__ == "__main__":

@@ -105,11 +105,20 @@ class Group:
     def __init__(self, contents: Contents, save: Callable[[Contents, Contents], None]) -> None:
         self.contents = contents
         self._save = save
+        self._failed = False
 
     def save(self, *new: bytes) -> None:
         """Change all the files to these contents, given in the order of the files. Returns
-        when that is on disk."""
+        when that is on disk. A group takes no save after one that failed: that one may be
+        done, and the contents here are those before it."""
+        if self._failed:
+            raise FileProblem(
+                "an earlier save of these files failed and may be done; nothing more was"
+                " changed. Open them again to go on"
+            )
+        self._failed = True
         self._save(self.contents, new)
+        self._failed = False
         self.contents = new
 
 
