@@ -82,13 +82,19 @@ class Ended(NamedTuple):
     wrote: str
 
 
-def run_in_child(arguments: Sequence[object], files: Files) -> Ended:
-    """One command, in a child of this process."""
+def nothing() -> None:
+    """What a child does before the command, unless told otherwise."""
+
+
+def run_in_child(
+    arguments: Sequence[object], files: Files, before: Callable[[], None] = nothing
+) -> Ended:
+    """One command, in a child of this process that does something before it."""
     reading, writing = os.pipe()
     child = os.fork()
     if child == 0:
         os.close(reading)
-        _child(arguments, files, writing)
+        _child(arguments, files, writing, before)
     os.close(writing)
     with os.fdopen(reading) as pipe:
         wrote = pipe.read()
@@ -98,10 +104,13 @@ def run_in_child(arguments: Sequence[object], files: Files) -> Ended:
     return Ended(False, os.WEXITSTATUS(status), wrote)
 
 
-def _child(arguments: Sequence[object], files: Files, writing: int) -> None:
+def _child(
+    arguments: Sequence[object], files: Files, writing: int, before: Callable[[], None]
+) -> None:
     code = 99  # a fault of the command or of this program
     said = io.StringIO()
     try:
+        before()
         with redirect_stdout(said), redirect_stderr(said):
             code = cli.main([str(argument) for argument in arguments], files)
     except BaseException:

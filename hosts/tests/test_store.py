@@ -2,6 +2,7 @@
 
 from __future__ import annotations
 
+import errno
 import fcntl
 import os
 import random
@@ -29,8 +30,9 @@ from support_cut import (
     run_in_child,
 )
 
+import taffrail
 from taffrail import layout
-from taffrail.files import FileProblem
+from taffrail.files import FileProblem, Files
 from taffrail.pending import Pending, change_between, encode_pending
 from taffrail.store import PARTNER, PENDING, Store, Wanted
 
@@ -667,6 +669,78 @@ class Saving(FolderTest):
             self.object.write_bytes(object_bytes([(edit, edit)] * count))
             self.assertEqual(self.add_bridge(edit).code, 0)
         self.assertEqual(run("check", self.map).code, 0)
+
+
+class OwnersRefused(Files):
+    """A system that lets nobody give a file to a user, nor to a group where that is said."""
+
+    def __init__(self, number: int, groups_too: bool) -> None:
+        self.number = number
+        self.groups_too = groups_too
+        self.asked: List[Tuple[int, int]] = []
+
+    def set_owner(self, handle: int, user: int, group: int) -> None:
+        self.asked.append((user, group))
+        if user != -1 or self.groups_too:
+            raise OSError(self.number, os.strerror(self.number))
+        super().set_owner(handle, user, group)
+
+
+class SharedFiles(FolderTest):
+    """Files of one user that others edit too."""
+
+    OWNER, GUEST, GROUP = 64_001, 64_002, 64_003  # numbers that need no name
+
+    def save_with(self, files: OwnersRefused) -> List[Tuple[int, int]]:
+        """What is asked when a pair is saved: for the note, then for the pending file."""
+        self.make_pair()
+        wanted = [Wanted(str(name), MOST) for name in (self.map, self.journal)]
+        with Store(files).edit(*wanted) as group:
+            group.save(*group.contents)
+        return files.asked
+
+    def test_the_group_is_given_where_the_user_is_not(self) -> None:
+        for number in (errno.EPERM, errno.EACCES, errno.EINVAL):
+            asked = self.save_with(OwnersRefused(number, groups_too=False))
+            about = self.map.stat()
+            both = [(about.st_uid, about.st_gid), (-1, about.st_gid)]
+            self.assertEqual(asked, both + both)
+
+    def test_neither_can_be_given(self) -> None:
+        """A user namespace does not know the owner (EINVAL), or one owner has all files."""
+        for number in (errno.EPERM, errno.EACCES, errno.EINVAL):
+            self.assertEqual(len(self.save_with(OwnersRefused(number, groups_too=True))), 4)
+
+    def test_other_trouble_is_told(self) -> None:
+        with self.assertRaisesRegex(FileProblem, "nothing was changed"):
+            self.save_with(OwnersRefused(errno.EIO, groups_too=False))
+
+    def become(self, user: int) -> Callable[[], None]:
+        def work() -> None:
+            os.setgroups([self.GROUP])
+            os.setegid(user)
+            os.seteuid(user)
+
+        return work
+
+    def test_two_users_of_one_group(self) -> None:
+        """The guest's edit is cut; the owner finishes it and goes on."""
+        if os.geteuid() != 0:
+            self.skipTest("only an administrator can run commands as two other users")
+        self.make_pair()
+        for path, mode in ((self.folder, 0o770), (self.map, 0o660), (self.journal, 0o660)):
+            os.chown(path, self.OWNER, self.GROUP)
+            path.chmod(mode)
+        self.object.chmod(0o644)
+        taffrail.check(b"")  # loads the library, which those users may be unable to reach
+        words = ["add", self.map, self.journal, "--edit", 1, self.object]
+        files = CountingFiles(["rename"], 2, cut_after)
+        self.assertTrue(run_in_child(words, files, self.become(self.GUEST)).cut)
+        self.assertIn(f"{self.map.name}{PENDING}", self.names())
+        words = ["remove", self.map, self.journal, "--edit", 2, "--slot", 0]
+        ended = run_in_child(words, Files(), self.become(self.OWNER))
+        self.assertEqual(ended.code, 0, ended.wrote)
+        self.assertEqual(self.names(), ["bridge.object", "city.journal", "city.ocd"])
 
 
 class SavingTwice(FolderTest):

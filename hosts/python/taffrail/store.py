@@ -52,6 +52,7 @@ What is assumed
 
 from __future__ import annotations
 
+import errno
 import os
 import stat
 import time
@@ -86,6 +87,9 @@ PARTNER = ".taffrail-partner"  # beside each other file of it: where the first o
 PART = ".part"  # added to either name while it is being written
 
 DEFAULT_WAIT = 60.0  # seconds to wait for a lock
+
+SAME = -1  # the user that a file has already
+MAY_NOT_GIVE = (errno.EPERM, errno.EACCES, errno.EINVAL)  # EINVAL: not known in this namespace
 
 
 @dataclass(frozen=True)
@@ -241,10 +245,20 @@ class Store:
     def _give_access(self, handle: int, beside: Opened) -> None:
         """Whoever may use the file that this one lies beside may use this one."""
         about = self._files.about(beside.handle)
-        with suppress(PermissionError):  # only an administrator may; the mode mostly does
-            self._files.set_owner(handle, about.st_uid, about.st_gid)
+        if not self._give(handle, about.st_uid, about.st_gid):
+            self._give(handle, SAME, about.st_gid)  # a user may not give files away
         with suppress(PermissionError):  # some file systems know one mode for all files
             self._files.set_mode(handle, stat.S_IMODE(about.st_mode) & 0o666)
+
+    def _give(self, handle: int, user: int, group: int) -> bool:
+        """Gives the file to this user and group; no where this process may not."""
+        try:
+            self._files.set_owner(handle, user, group)
+        except OSError as problem:
+            if problem.errno not in MAY_NOT_GIVE:
+                raise
+            return False
+        return True
 
     def _withdraw(self, paths: Sequence[str]) -> None:
         """Removes what a save that failed before the rename has left behind. What cannot be
