@@ -335,6 +335,40 @@ class FailingCalls(CutTest):
         self.assertIn("No space left on device", ended.wrote)
 
 
+class ClosedFolder(Files):
+    """A system where this folder can be written, but not opened to look at what is in it."""
+
+    def __init__(self, folder: Path) -> None:
+        self.folder = str(folder)
+
+    def open(self, path: str, flags: int) -> int:
+        if path == self.folder:
+            raise PermissionError(errno.EACCES, os.strerror(errno.EACCES), path)
+        return super().open(path, flags)
+
+
+class FoldersThatCannotBeOpened(CutTest):
+    """A folder's names cannot be brought to disk: that is told before the edit is done."""
+
+    def assert_nothing_is_changed(self, scene: Scene, folder: Path) -> None:
+        ended = run_in_child(scene.arguments(scene.work, scene.command), ClosedFolder(folder))
+        self.assertEqual(ended.code, 2)
+        self.assertIn("nothing was changed", ended.wrote)
+        self.assertIn("Permission denied", ended.wrote)
+        self.assertEqual(scene.pair_in(scene.work), scene.old)
+        self.assertEqual(list(scene.work.rglob("*taffrail*")), [])
+
+    def test_the_maps_folder(self) -> None:
+        scene = self.first_add()
+        scene.begin()
+        self.assert_nothing_is_changed(scene, scene.work / "maps")
+
+    def test_the_journals_folder(self) -> None:
+        scene = self.first_add()
+        scene.begin()
+        self.assert_nothing_is_changed(scene, scene.work)
+
+
 class Waiting(CutTest):
     """A pair that waits to be finished, and what people do with files meanwhile."""
 

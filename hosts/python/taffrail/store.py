@@ -58,7 +58,7 @@ import stat
 import time
 from contextlib import contextmanager, suppress
 from dataclasses import dataclass, replace
-from typing import Callable, Iterator, Optional, Sequence, Tuple
+from typing import Callable, Iterable, Iterator, Optional, Sequence, Tuple
 
 from .files import (
     FileProblem,
@@ -204,12 +204,14 @@ class Store:
             ) from problem
 
     def _commit(self, held: Sequence[Opened], pending: Pending) -> None:
-        """Steps 2 and 3. The last call in here, a rename, makes the edit done."""
+        """Steps 2 and 3. The last call in here, a rename, makes the edit done. The folders
+        have been brought to disk before it, so one that cannot be is no trouble after it."""
         first = held[0].path
         try:
             for file in held[1:]:
                 self._put(file.path + PARTNER, encode_note(first, file.path), file)
-                sync_folder_of(self._files, file.path)
+            for path in _one_of_each_folder(pending.paths()):
+                sync_folder_of(self._files, path)
             self._put(first + PENDING, encode_pending(pending), held[0])
         except OSError as problem:
             self._withdraw(pending.paths())
@@ -458,6 +460,10 @@ def _told(problem: OSError) -> str:
     if problem.filename is None:
         return problem.strerror or str(problem)
     return f"{problem.strerror}: {problem.filename}"
+
+
+def _one_of_each_folder(paths: Sequence[str]) -> Iterable[str]:
+    return {os.path.dirname(path): path for path in paths}.values()
 
 
 def _refuse_twins(paths: Sequence[str]) -> None:
