@@ -511,6 +511,27 @@ class FilesInTrouble(CliTest):
         self.assert_unusable(self.remove(2, 0), self.map, "hard link")
         self.assertEqual(run("check", self.map).code, DONE)
 
+    def test_long_names(self) -> None:
+        """A file whose name leaves no room for the endings of a save is read, and not edited."""
+        longest = os.pathconf(self.folder, "PC_NAME_MAX")
+        for room in (0, 16, 17, 21):
+            name = self.folder / ("m" * (longest - room))
+            self.map.rename(name)
+            self.map = name
+            self.assertEqual(run("check", self.map).code, DONE)
+            self.assertEqual(run("show", self.map).code, DONE)
+            before = self.map.read_bytes(), self.names()
+            self.assert_unusable(self.remove(2, 0), "the name is too long to be edited")
+            self.assertEqual((self.map.read_bytes(), self.names()), before)
+        self.journal.rename(self.folder / ("j" * longest))
+        self.assertEqual(run("journal", self.folder / ("j" * longest)).code, DONE)
+
+    def test_the_longest_name_that_can_be_edited(self) -> None:
+        name = self.folder / ("m" * (os.pathconf(self.folder, "PC_NAME_MAX") - 22))
+        self.map.rename(name)
+        self.map = name
+        self.assertEqual(self.remove(2, 0).code, DONE)
+
     def test_one_file_for_both(self) -> None:
         words = ("remove", self.map, self.map, "--edit", 2, "--slot", 0)
         self.assert_unusable(run(*words), "named twice")

@@ -504,6 +504,17 @@ class Waiting(CutTest):
         self.assertEqual(self.journal.read_bytes(), self.scene.new[1])
         self.assertEqual(layout.read_journal(other.read_bytes()), [(1, "remove", 0)])
 
+    def test_a_path_that_is_too_long(self) -> None:
+        """The folder is moved so deep that the pending file is there and cannot be reached: the
+        old map is not taken for the truth."""
+        whole, rest = divmod(4_095 - len(f"{self.folder}/work/maps/city.ocd"), 201)
+        deep = self.folder.joinpath(*["d" * 200] * whole, "d" * (rest - 1))
+        os.makedirs(deep)
+        self.scene.work.rename(deep / "work")
+        self.map = deep / "work" / "maps" / "city.ocd"
+        with self.assertRaisesRegex(FileProblem, "too long"):
+            self.read(self.map)
+
     def test_hard_links(self) -> None:
         """A second name: read as it will be, but not written."""
         os.link(self.map, self.folder / "backup.ocd")

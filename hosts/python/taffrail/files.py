@@ -29,6 +29,14 @@ def file_problem(path: str, problem: OSError) -> FileProblem:
     return FileProblem(f"{path}: {said}")
 
 
+LONGEST_PATH = 4_095  # bytes; a path over that is refused, whatever there is at its end
+
+
+def name_is_too_long(path: str, problem: OSError) -> bool:
+    """Whether no file can be there, because a name in the path is longer than any may be."""
+    return problem.errno == errno.ENAMETOOLONG and len(os.fsencode(path)) <= LONGEST_PATH
+
+
 class Files:
     """Every system call of the store, one method each.
 

@@ -66,6 +66,7 @@ from .files import (
     Locked,
     discard,
     file_problem,
+    name_is_too_long,
     read_up_to,
     sync_folder_of,
     write_all,
@@ -275,7 +276,7 @@ class Store:
                 try:
                     discard(self._files, path + ending)
                 except OSError as problem:
-                    raise file_problem(path + ending, problem) from problem
+                    raise _leftover_problem(path, ending, problem) from problem
 
     def _remove(self, path: str) -> None:
         discard(self._files, path)
@@ -416,6 +417,8 @@ class Store:
         except FileNotFoundError:
             return None
         except OSError as problem:
+            if name_is_too_long(path, problem):
+                return None
             raise file_problem(path, problem) from problem
         try:
             return read_up_to(self._files, handle, self._files.about(handle).st_size)
@@ -460,6 +463,15 @@ def _told(problem: OSError) -> str:
     if problem.filename is None:
         return problem.strerror or str(problem)
     return f"{problem.strerror}: {problem.filename}"
+
+
+def _leftover_problem(path: str, ending: str, problem: OSError) -> FileProblem:
+    if name_is_too_long(path + ending, problem):
+        return FileProblem(
+            f"{path}: the name is too long to be edited, because an edit makes a file with"
+            f" {ending} behind it; nothing was changed"
+        )
+    return file_problem(path + ending, problem)
 
 
 def _one_of_each_folder(paths: Sequence[str]) -> Iterable[str]:
