@@ -523,6 +523,8 @@ class FilesInTrouble(CliTest):
             before = self.map.read_bytes(), self.names()
             self.assert_unusable(self.remove(2, 0), "the name is too long to be edited")
             self.assertEqual((self.map.read_bytes(), self.names()), before)
+        self.assert_unusable(run("new", self.folder / ("n" * longest)), "too long")
+        self.assertEqual(self.names(), before[1])
         self.journal.rename(self.folder / ("j" * longest))
         self.assertEqual(run("journal", self.folder / ("j" * longest)).code, DONE)
 

@@ -321,6 +321,42 @@ class FailingCalls(CutTest):
                 seen = scene.look_with(look)
                 self.assertEqual(seen, scene.new if done else scene.old, ended.wrote)
 
+    def test_new(self) -> None:
+        """A pair is made wholly, or nothing is left of the try."""
+        command = ["new", self.map, "--journal", self.journal, "--records", 4]
+        calls = count_calls(command, CHANGING)
+        found = []
+        for chosen in range(1, calls + 1):
+            for path in self.folder.glob("city*"):
+                path.unlink()
+            ended = run_in_child(command, CountingFiles(CHANGING, chosen, no_space))
+            self.assertEqual((ended.cut, ended.code), (False, 2), ended.wrote)
+            done = "the edit is done and kept in" in ended.wrote
+            if done:
+                seen = [Store().read(Wanted(str(path), MOST)) for path in (self.map, self.journal)]
+                self.assertEqual(seen, [layout.empty_map(8), bytes(64)])
+            else:
+                self.assertEqual(self.names(), ["bridge.object"], chosen)
+            found.append(done)
+        self.assertEqual(set(found), {False, True})
+
+    def test_new_leaves_what_it_has_not_made(self) -> None:
+        """An empty file that was there before stays, and so does one that others have filled."""
+        self.map.touch()
+        command = ["new", self.map, "--journal", self.journal, "--records", 4]
+        ended = run_in_child(command, CountingFiles(["write"], 1, no_space))
+        self.assertEqual(ended.code, 2)
+        self.assertEqual(self.names(), ["bridge.object", "city.ocd"])
+        self.map.unlink()
+
+        def filled(files: Files, name: str, given: Sequence[object]) -> None:
+            self.map.write_bytes(b"theirs")
+            no_space(files, name, given)
+
+        ended = run_in_child(command, CountingFiles(["create"], 3, filled))
+        self.assertEqual(ended.code, 2)
+        self.assertEqual(self.map.read_bytes(), b"theirs")
+
     def test_a_full_disk_while_finishing(self) -> None:
         """A reader sees the new pair though it cannot be finished; an editor says why not."""
         scene = self.first_add()

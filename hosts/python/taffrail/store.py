@@ -58,7 +58,7 @@ import stat
 import time
 from contextlib import contextmanager, suppress
 from dataclasses import dataclass, replace
-from typing import Callable, Iterable, Iterator, Optional, Sequence, Tuple
+from typing import Callable, Iterable, Iterator, List, Optional, Sequence, Tuple
 
 from .files import (
     FileProblem,
@@ -167,16 +167,34 @@ class Store:
         """Make new files with these contents, all or none. A file that is there and is not
         empty stays as it is, and that is a FileProblem. A cut may leave empty files; they
         are no hindrance to the next try."""
-        _refuse_twins([self._files.real_path(path) for path, _ in files])
+        paths = [self._files.real_path(path) for path, _ in files]
+        _refuse_twins(paths)
         for path, _ in files:
             self._refuse_taken(path)
-        for path, _ in files:
-            self._make_empty(path)
+        made: List[str] = []
+        try:
+            for path, _ in files:
+                self._make_empty(path, made)
+            self._fill(files)
+        except BaseException:
+            self._unmake(made, paths)
+            raise
+
+    def _fill(self, files: Sequence[Tuple[str, bytes]]) -> None:
         with self.edit(*[Wanted(path, 1) for path, _ in files]) as group:
             for (path, _), found in zip(files, group.contents):
                 if found:
                     raise FileProblem(f"{path}: exists already; nothing was changed")
             group.save(*[content for _, content in files])
+
+    def _unmake(self, made: Sequence[str], paths: Sequence[str]) -> None:
+        """Removes the empty files that a failed try at these paths has made. They stay where
+        something is in one of the files or waits for it, or where another holds one."""
+        with suppress(FileProblem, OSError):
+            with opened(self._files, made, EXCLUSIVE, time.monotonic()):
+                if self._pending_of_any(made) is None and not any(map(self._size_at, paths)):
+                    for path in made:
+                        discard(self._files, path)
 
     # Saving: steps 2 to 5.
 
@@ -449,12 +467,16 @@ class Store:
         except FileNotFoundError:
             return 0
 
-    def _make_empty(self, path: str) -> None:
-        """Makes an empty file where there is none; one that is there stays as it is."""
+    def _make_empty(self, path: str, made: List[str]) -> None:
+        """Makes an empty file where there is none, and notes it; one that is there stays."""
         real = self._files.real_path(path)
         try:
-            self._files.close(self._files.create(real, os.O_WRONLY, 0o666))
+            handle = self._files.create(real, os.O_WRONLY | os.O_EXCL, 0o666)
+            made.append(real)
+            self._files.close(handle)
             sync_folder_of(self._files, real)
+        except FileExistsError:
+            return  # opening it tells whether it is fit
         except OSError as problem:
             raise file_problem(path, problem) from problem
 
