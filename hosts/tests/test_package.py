@@ -336,6 +336,15 @@ class Lending(unittest.TestCase):
         self.assertEqual(len(library.lend_for_reading(b"")), 0)
         self.assertEqual(bytes(library.lend_for_reading(memoryview(b"abcd")[::2])), b"ac")
 
+    def test_bytes_that_tell_another_length(self) -> None:
+        class Odd(bytes):
+            def __len__(self) -> int:
+                return 5
+
+        self.assertEqual(taffrail.check(Odd(taffrail.empty_map(7))), Accepted())
+        self.assertEqual(bytes(library.lend_for_reading(Odd(b"abc"))), b"abc")
+        self.assertEqual(bytes(library.lend_for_reading(Odd(b""))), b"")
+
     def test_wrong_lists_and_pieces(self) -> None:
         wrong: Any
         for wrong in (array("H"), [0], b"0000"):

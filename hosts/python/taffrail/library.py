@@ -201,9 +201,10 @@ def lend_for_reading(buffer: Readable) -> Any:
 def _lend_bytes(data: bytes) -> Any:
     """The bytes object's own bytes; the caller holds on to it for as long as the call takes."""
     address = ctypes.cast(ctypes.c_char_p(data), ctypes.c_void_p).value
-    if not data or address is None:
+    size = bytes.__len__(data)  # a subclass may tell another length
+    if size == 0 or address is None:
         return (_Byte * 0)()
-    return (_Byte * len(data)).from_address(address)
+    return (_Byte * size).from_address(address)
 
 
 def lend_list(slots: SlotArray) -> Any:
