@@ -534,6 +534,22 @@ class FilesInTrouble(CliTest):
         self.map = name
         self.assertEqual(self.remove(2, 0).code, DONE)
 
+    def test_names_of_the_stores_own_files(self) -> None:
+        """A save would overwrite or remove a map or a journal of such a name."""
+        old = self.map.read_bytes(), self.journal.read_bytes()
+        for ending in (".taffrail-pending", ".taffrail-partner"):
+            for name in (f"{self.map}{ending}", f"{self.map}{ending}.part"):
+                self.assert_unusable(run("new", name), "needs another name")
+                self.assert_unusable(run("new", "--journal", name), "needs another name")
+                self.assertFalse(os.path.exists(name))
+                self.journal.rename(name)
+                words = ("remove", self.map, name, "--edit", 2, "--slot", 0)
+                self.assert_unusable(run(*words), "needs another name")
+                self.assert_unusable(run("journal", name), "needs another name")
+                os.rename(name, self.journal)
+                self.assertEqual((self.map.read_bytes(), self.journal.read_bytes()), old)
+        self.assertEqual(self.names(), ["bridge.object", "city.journal", "city.ocd"])
+
     def test_one_file_for_both(self) -> None:
         words = ("remove", self.map, self.map, "--edit", 2, "--slot", 0)
         self.assert_unusable(run(*words), "named twice")

@@ -86,6 +86,7 @@ from .pending import (
 PENDING = ".taffrail-pending"  # beside the first file of a save: the new bytes of all
 PARTNER = ".taffrail-partner"  # beside each other file of it: where the first one is
 PART = ".part"  # added to either name while it is being written
+OWN_ENDINGS = (PENDING, PARTNER, PENDING + PART, PARTNER + PART)
 
 DEFAULT_WAIT = 60.0  # seconds to wait for a lock
 
@@ -138,7 +139,7 @@ class Store:
         """The contents of a file, after finishing an edit that was cut; or as they will be
         then, where it cannot be finished from here."""
         deadline = time.monotonic() + self._wait
-        path = self._files.real_path(wanted.path)
+        path = self._path_of(wanted.path)
         can_finish = True
         while True:
             with opened(self._files, [path], SHARED, deadline) as (file,):
@@ -153,7 +154,7 @@ class Store:
     def edit(self, *wanted: Wanted) -> Iterator[Group]:
         """The files, locked until the end of the ``with`` block, for reading and saving."""
         deadline = time.monotonic() + self._wait
-        paths = [self._files.real_path(one.path) for one in wanted]
+        paths = [self._path_of(one.path) for one in wanted]
         _refuse_twins(paths)
         while True:
             with opened(self._files, paths, EXCLUSIVE, deadline) as held:
@@ -167,7 +168,7 @@ class Store:
         """Make new files with these contents, all or none. A file that is there and is not
         empty stays as it is, and that is a FileProblem. A cut may leave empty files; they
         are no hindrance to the next try."""
-        paths = [self._files.real_path(path) for path, _ in files]
+        paths = [self._path_of(path) for path, _ in files]
         _refuse_twins(paths)
         for path, _ in files:
             self._refuse_taken(path)
@@ -421,6 +422,16 @@ class Store:
             ) from problem
 
     # Reading and making files.
+
+    def _path_of(self, path: str) -> str:
+        """The real path of a map or a journal."""
+        real = self._files.real_path(path)
+        if real.endswith(OWN_ENDINGS):
+            raise FileProblem(
+                f"{path}: names that end in {PENDING} or {PARTNER}, with or without {PART}, are"
+                " for the files of a save; a map or a journal needs another name"
+            )
+        return real
 
     def _contents(self, file: Opened, most: int) -> bytes:
         try:
