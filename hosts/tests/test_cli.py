@@ -3,13 +3,18 @@
 from __future__ import annotations
 
 import fcntl
+import io
 import os
+import shlex
+import struct
 import subprocess
 import sys
+import termios
 import time
 import unittest
 from pathlib import Path
 from typing import Dict, List
+from unittest import mock
 
 from support_host import (
     FolderTest,
@@ -239,6 +244,31 @@ class Json(CliTest):
         self.assertIn("no such file", ran.json()["message"])
 
 
+    def test_wrong_usage(self) -> None:
+        """What is wrong with the words is told in JSON too, whatever they are."""
+        pair = (self.map, self.journal)
+        cases = {
+            (): "required: COMMAND",
+            ("fly",): "invalid choice: 'fly'",
+            ("check",): "check: the following arguments are required: MAP",
+            ("check", self.map, "--wait", "long"): "'long' is not a number of seconds",
+            ("remove", *pair, "--edit", 2**32, "--slot", 0): "4294967296 is not within",
+            ("search", self.map, 0, 0, 0, "far"): "argument T: 'far' is not a whole number",
+            ("new",): "new: name a map",
+        }
+        for words, said in cases.items():
+            with self.subTest(words=words):
+                ran = run(*words, "--json")
+                self.assertEqual((ran.code, ran.err), (UNUSABLE, ""))
+                self.assertEqual(sorted(ran.json()), ["message", "result"])
+                self.assertEqual(ran.json()["result"], "unusable")
+                self.assertIn(said, ran.json()["message"])
+
+    def test_the_word_cut_short(self) -> None:
+        self.make_pair()
+        self.assertEqual(run("check", self.map, "--js").json()["result"], "accepted")
+
+
 class Refusals(CliTest):
     """Refusals name number, place and words, end with 1, and write nothing."""
 
@@ -332,9 +362,15 @@ class Usage(CliTest):
         self.make_pair()
         self.assert_unusable(self.remove(2**32, 0), "--edit", "4294967296 is not within")
 
+    def test_the_usage_is_told(self) -> None:
+        self.assert_unusable(run("check"), "usage: taffrail check", "taffrail: check: ", "MAP")
+        self.assert_unusable(run(), "usage: taffrail ", "taffrail: the following", "COMMAND")
+
     def test_help(self) -> None:
         ran = run("--help")
         self.assertEqual(ran.code, DONE)
+        for code in ("0 done", "1 refused", "2 usage", "130 interrupted"):
+            self.assertIn(code, " ".join(ran.out.split()))
         for name in COMMANDS:
             self.assertIn(name, ran.out)
             self.assertEqual(run(name, "--help").code, DONE)
@@ -639,6 +675,56 @@ class Output(CliTest):
         self.assertEqual(ended.returncode, UNUSABLE)
         self.assertIn(b"No space left", ended.stderr)
         self.assertNotIn(b"Traceback", ended.stderr)
+
+    @unittest.skipUnless(os.path.exists("/dev/full"), "there is no /dev/full")
+    def test_standard_error_that_cannot_be_written(self) -> None:
+        """The exit code is what it would be otherwise, and nothing goes to standard output."""
+        missing = self.folder / "missing"
+        for words, code in (
+            (("check", missing), UNUSABLE),
+            (("fly",), UNUSABLE),
+            (("check",), UNUSABLE),
+            (("remove", self.map, self.journal, "--edit", 2, "--slot", 1), REFUSED),
+        ):
+            for there in ("2>/dev/full", "2>&-"):
+                with self.subTest(words=words, there=there):
+                    line = f"{shlex.join(command_line(*words))} {there}"
+                    ended = subprocess.run(
+                        line, shell=True, env=environment(), stdout=subprocess.PIPE, check=False
+                    )
+                    self.assertEqual((ended.returncode, ended.stdout), (code, b""))
+
+    @unittest.skipUnless(os.path.exists("/dev/full"), "there is no /dev/full")
+    def test_neither_can_be_written(self) -> None:
+        line = f"{shlex.join(command_line('check', self.map))} >/dev/full 2>/dev/full"
+        ended = subprocess.run(line, shell=True, env=environment(), check=False)
+        self.assertEqual(ended.returncode, UNUSABLE)
+
+    def test_standard_input_that_does_not_wait(self) -> None:
+        """The object comes in two halves, the second when the first has been read."""
+        reading, writing = os.pipe()
+        os.set_blocking(reading, False)
+        os.write(writing, object_bytes()[:20])
+        words = command_line("add", self.map, self.journal, "--edit", 2, "-")
+        child = subprocess.Popen(
+            words, env=environment(), stdin=reading, stdout=subprocess.PIPE, stderr=subprocess.PIPE
+        )
+        while self.bytes_in(reading) > 0 and child.poll() is None:
+            time.sleep(0.01)
+        os.write(writing, object_bytes()[20:])
+        os.close(writing)
+        os.close(reading)
+        out, err = child.communicate(timeout=60)
+        self.assertEqual((child.returncode, out[:5], err), (DONE, b"done:", b""))
+
+    def bytes_in(self, pipe: int) -> int:
+        """How many bytes wait in the pipe."""
+        (count,) = struct.unpack("i", fcntl.ioctl(pipe, termios.FIONREAD, bytes(4)))
+        return int(count)
+
+    def test_standard_input_without_a_descriptor(self) -> None:
+        with mock.patch.object(sys, "stdin", io.TextIOWrapper(io.BytesIO(b"bytes"))):
+            self.assertEqual(cli.read_object("-"), b"bytes")
 
     def test_standard_input_that_is_closed(self) -> None:
         line = " ".join(command_line("add", self.map, self.journal, "--edit", 2, "-")) + " <&-"

@@ -2,8 +2,8 @@
 
 Exit codes: 0 for done, done before, accepted, found and listed; 1 for refused; 2 for wrong
 usage and for files that cannot be used; 130 for an interrupt. With --json every command writes
-one JSON object to standard output, refusals and file problems too. Files are opened, locked and
-saved by the module ``store``; a refusal writes nothing.
+one JSON object to standard output, for refusals, file problems and wrong usage too. Files are
+opened, locked and saved by the module ``store``; a refusal writes nothing.
 """
 
 from __future__ import annotations
@@ -15,7 +15,20 @@ import math
 import os
 import re
 import sys
-from typing import Any, Callable, Dict, Iterable, List, NamedTuple, Optional, Sequence, Tuple
+from contextlib import suppress
+from typing import (
+    Any,
+    Callable,
+    Dict,
+    Iterable,
+    List,
+    NamedTuple,
+    NoReturn,
+    Optional,
+    Sequence,
+    TextIO,
+    Tuple,
+)
 
 from . import layout
 from .calls import add, check, reinstate, remove, room_for_add, search
@@ -24,6 +37,9 @@ from .layout import JOURNAL_LIMIT, MAP_LIMIT, MOST_RECORDS, OBJECT_LIMIT, Slot
 from .library import LibraryError
 from .results import Done, DoneBefore, EditResult, Refused, refused
 from .store import DEFAULT_WAIT, Store, Wanted
+
+PROGRAM = "taffrail"
+JSON = "--json"
 
 DONE, REFUSED, UNUSABLE = 0, 1, 2  # the exit codes
 INTERRUPTED = 130
@@ -37,7 +53,11 @@ Facts = Dict[str, Any]
 
 
 class WrongUsage(Exception):
-    """The words of a command do not go together."""
+    """The words of a command do not go together, or are none. The usage is told before."""
+
+    def __init__(self, message: str, usage: str = "") -> None:
+        super().__init__(message)
+        self.usage = usage
 
 
 class Report(NamedTuple):
@@ -218,12 +238,19 @@ def read_object(path: str) -> bytes:
     if path == STANDARD_INPUT:
         if sys.stdin is None:
             raise FileProblem("standard input is closed")
-        return sys.stdin.buffer.read(most)
+        return read_input(most)
     try:
         with open(path, "rb") as file:
             return file.read(most)
     except OSError as problem:
         raise file_problem(path, problem) from problem
+
+
+def read_input(most: int) -> bytes:
+    """The bytes of standard input, which whoever shares it may have set not to wait."""
+    with suppress(io.UnsupportedOperation):  # it may have no descriptor
+        os.set_blocking(sys.stdin.fileno(), True)
+    return sys.stdin.buffer.read(most)
 
 
 # Reports.
@@ -251,9 +278,14 @@ def report_edit(answer: EditResult, edit: int) -> Report:
     return Report(DONE, facts, text)
 
 
+def report_usage(problem: WrongUsage) -> Report:
+    report = report_problem(str(problem))
+    return report._replace(text=problem.usage + report.text)
+
+
 def report_problem(message: str) -> Report:
     facts = {"result": "unusable", "message": message}
-    return Report(UNUSABLE, facts, f"taffrail: {message}")
+    return Report(UNUSABLE, facts, f"{PROGRAM}: {message}")
 
 
 def map_facts(accepted_map: bytes) -> Facts:
@@ -317,11 +349,19 @@ WORD = whole_number(0, 2**32 - 1)
 COORDINATE = whole_number(-(2**31), 2**31 - 1)
 
 
-def make_parser() -> argparse.ArgumentParser:
-    parser = argparse.ArgumentParser(
-        prog="taffrail",
+class Parser(argparse.ArgumentParser):
+    """Raises what is wrong with the words, so that it is reported as other problems are."""
+
+    def error(self, message: str) -> NoReturn:
+        command = self.prog[len(PROGRAM) :].strip()
+        raise WrongUsage(f"{command}: {message}" if command else message, self.format_usage())
+
+
+def make_parser() -> Parser:
+    parser = Parser(
+        prog=PROGRAM,
         description="OCAD 6, 7 and 8 maps: check, search and edit, under a journal of edits.",
-        epilog="Exit codes: 0 done or done before, 1 refused, 2 usage or files.",
+        epilog="Exit codes: 0 done or done before, 1 refused, 2 usage or files, 130 interrupted.",
     )
     commands = parser.add_subparsers(metavar="COMMAND", required=True)
     common = make_common()
@@ -346,7 +386,7 @@ def make_parser() -> argparse.ArgumentParser:
 def make_common() -> argparse.ArgumentParser:
     """What every command takes."""
     common = argparse.ArgumentParser(add_help=False)
-    common.add_argument("--json", action="store_true", help="answer in JSON, for scripts")
+    common.add_argument(JSON, action="store_true", help="answer in JSON, for scripts")
     waiting = common.add_mutually_exclusive_group()
     waiting.add_argument(
         "--wait",
@@ -411,20 +451,36 @@ def describe_show(show: argparse.ArgumentParser) -> None:
 
 def main(arguments: Optional[Sequence[str]] = None, files: Optional[Files] = None) -> int:
     """Runs one command and gives its exit code. ``files`` makes the system calls."""
-    given = make_parser().parse_args(arguments)
+    words = sys.argv[1:] if arguments is None else list(arguments)
     try:
-        report = given.run(given, Store(files, given.wait))
-    except (WrongUsage, FileProblem, LibraryError) as problem:
-        report = report_problem(str(problem))
+        given = make_parser().parse_args(words)
+    except WrongUsage as problem:
+        return tell(report_usage(problem), JSON in words)
+    return tell(report_of(given, Store(files, given.wait)), given.json)
+
+
+def report_of(given: argparse.Namespace, store: Store) -> Report:
+    """Runs the command that is given."""
+    try:
+        report: Report = given.run(given, store)
+    except WrongUsage as problem:
+        return report_usage(problem)
+    except (FileProblem, LibraryError) as problem:
+        return report_problem(str(problem))
     except OSError as problem:
-        report = report_problem(f"{problem.filename or 'system'}: {problem.strerror}")
+        return report_problem(f"{problem.filename or 'system'}: {problem.strerror}")
+    return report
+
+
+def tell(report: Report, as_json: bool) -> int:
+    """Writes the report and gives the exit code."""
     try:
-        write(report, given.json)
+        write(report, as_json)
     except BrokenPipeError:
-        silence_output()  # the reader has seen enough, as head does
+        silence(sys.stdout)  # the reader has seen enough, as head does
     except OSError as problem:
-        silence_output()
-        print(f"taffrail: standard output: {problem.strerror}", file=sys.stderr)
+        silence(sys.stdout)
+        complain(f"{PROGRAM}: standard output: {problem.strerror}")
         return UNUSABLE
     return report.exit_code
 
@@ -436,13 +492,23 @@ def write(report: Report, as_json: bool) -> None:
     elif report.exit_code == DONE:
         print(report.text, flush=True)
     else:
-        print(report.text, file=sys.stderr, flush=True)
+        complain(report.text)
 
 
-def silence_output() -> None:
+def complain(text: str) -> None:
+    """Says this on standard error. Where that cannot be written the exit code has to do."""
+    if sys.stderr is None:
+        return
+    try:
+        print(text, file=sys.stderr, flush=True)
+    except OSError:
+        silence(sys.stderr)
+
+
+def silence(stream: TextIO) -> None:
     """Lets what is still to be written go nowhere, so that Python ends without a complaint."""
     nowhere = os.open(os.devnull, os.O_WRONLY)
-    os.dup2(nowhere, sys.stdout.fileno())
+    os.dup2(nowhere, stream.fileno())
     os.close(nowhere)
 
 
@@ -453,6 +519,6 @@ def run() -> None:
     try:
         code = main()
     except KeyboardInterrupt:
-        print("taffrail: interrupted; an edit is done wholly or not at all", file=sys.stderr)
+        complain(f"{PROGRAM}: interrupted; an edit is done wholly or not at all")
         code = INTERRUPTED
     sys.exit(code)
