@@ -17,6 +17,8 @@ from typing import Dict, List
 from unittest import mock
 
 from support_host import (
+    MODEL,
+    PACKAGE_FOLDER,
     FolderTest,
     Ran,
     command_line,
@@ -733,6 +735,22 @@ class Output(CliTest):
         )
         self.assertEqual(ended.returncode, UNUSABLE)
         self.assertIn(b"standard input is closed", ended.stderr)
+
+
+class TheDemonstration(unittest.TestCase):
+    @unittest.skipIf(MODEL, "the demonstration runs with the library")
+    def test_with_folders_that_cd_looks_through(self) -> None:
+        """With CDPATH, cd goes by other folders and writes where it went."""
+        ended = subprocess.run(
+            ["hosts/demo"],
+            cwd=PACKAGE_FOLDER.parent.parent,
+            env={**environment(), "CDPATH": ".", "PYTHON": sys.executable},
+            capture_output=True,
+            timeout=120,
+            check=False,
+        )
+        self.assertEqual((ended.returncode, ended.stderr), (0, b""))
+        self.assertIn(b"All answers were as expected.", ended.stdout)
 
 
 class TheLibrary(CliTest):
