@@ -8,6 +8,8 @@ The library is looked for in this order:
 
 Buffers are lent: C reads and writes the very bytes that the caller holds. While a call runs
 it keeps the interpreter's lock, so no other thread of the program can change them meanwhile.
+A Python that is built without that lock is not covered: there the program itself has to keep
+its threads apart.
 """
 
 from __future__ import annotations

@@ -48,6 +48,14 @@ What is assumed
 * Whoever may create files in the map's folder may be trusted with the map.
 * A file has one name. One with hard links is read, but not edited: through the other name
   the pending file would not be found.
+* A file is in one folder, the same for all who use it. One that is mounted by itself, as a
+  single file into a container, is in two, and what waits in one of them is not seen from the
+  other. Mount the whole folder.
+* In a folder where only the owner of a file may remove it (a sticky one, as /tmp), what a cut
+  edit left is cleared away by the user whose edit it was, by the folder's owner or by an
+  administrator. Until then others read what is true, and their edits are refused.
+* A name leaves room for the endings above, 22 bytes. A file with a longer one is read, but not
+  edited. No map and no journal has a name with such an ending itself.
 """
 
 from __future__ import annotations
