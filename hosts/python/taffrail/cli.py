@@ -53,7 +53,7 @@ Facts = Dict[str, Any]
 
 
 class WrongUsage(Exception):
-    """The words of a command do not go together, or are none. The usage is told before."""
+    """The words of a command do not go together. The usage, if any, is told before that."""
 
     def __init__(self, message: str, usage: str = "") -> None:
         super().__init__(message)
