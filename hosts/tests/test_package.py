@@ -107,7 +107,8 @@ class TheDocumentsExample(unittest.TestCase):
 
 
 class BetweenTwoCalls(unittest.TestCase):
-    """A search asks twice, and another thread may edit the map in between."""
+    """A search whose first list is too short asks again, and another thread may edit the map in
+    between."""
 
     def search_during(
         self, used: int, map_buffer: bytearray, *edits: Callable[[], object]
@@ -122,7 +123,8 @@ class BetweenTwoCalls(unittest.TestCase):
                 waiting.pop(0)()
             return answer
 
-        with mock.patch.object(answering, "search", busy):
+        without_room = mock.patch.object(taffrail.calls, "_SHORT_LIST", 0)
+        with without_room, mock.patch.object(answering, "search", busy):
             found = taffrail.search(map_buffer, 0, 0, 10, 10, used=used)
         self.assertEqual(waiting, [])
         return found

@@ -37,6 +37,9 @@ _HIGHEST_SIZE = 2 ** (8 * ctypes.sizeof(ctypes.c_size_t)) - 1  # size_t
 
 _LIST_TOO_SHORT = 9
 
+# A search begins with a list of so many entries. The library finds as many in one pass.
+_SHORT_LIST = 256
+
 
 def check(map_buffer: Readable, *, used: Optional[int] = None) -> CheckResult:
     """Judge a map: ``Accepted()``, or ``Refused`` with the first fault's number and place.
@@ -63,12 +66,11 @@ def search(
 ) -> SearchResult:
     """Find the live slots whose rectangle meets the window, which is in 0.01 mm and closed.
 
-    Answers ``Found(slots, blocks)`` or ``Refused``. The map is searched once with an empty
-    list to learn the count, and once more if the count isn't 0. Where another thread edits
-    the map in between and the count grows, it is searched again. The buffer is lent or copied
-    as ``check`` says.
+    Answers ``Found(slots, blocks)`` or ``Refused``. The map is searched with a short list,
+    and once more if more slots are found. Where another thread edits the map in between and
+    the count grows, it is searched again. The buffer is lent or copied as ``check`` says.
     """
-    slots = array("I")
+    slots = array("I", bytes(array("I").itemsize * _SHORT_LIST))
     answer = search_into(map_buffer, left, bottom, right, top, slots, used=used)
     # This ends: each list is longer than the one before, and a map's slots are limited.
     while not isinstance(answer, Listed) and answer.number == _LIST_TOO_SHORT:
