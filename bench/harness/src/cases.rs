@@ -58,7 +58,15 @@ impl Bench {
         self.search_into(group, name, map, half, map.slots(), Want::Done);
     }
 
-    fn search_into(&mut self, group: &'static str, name: &str, map: &Map, half: i32, room: usize, want: Want) {
+    fn search_into(
+        &mut self,
+        group: &'static str,
+        name: &str,
+        map: &Map,
+        half: i32,
+        room: usize,
+        want: Want,
+    ) {
         let window = [-half, -half, half, half];
         let mut lent = lend(map, Vec::new());
         lent.list = vec![0xEEEE_EEEE; room];
