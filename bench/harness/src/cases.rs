@@ -117,7 +117,7 @@ impl Bench {
         let map = one_object();
         let add = Call::Add { edit: 1, object: Offered::new(&maps::object(101, &[(5, 5)], 1)) };
         let remove = Call::Remove { edit: 1, at: 0 };
-        for records in [16, 4_096] {
+        for records in [16, 65, 4_096] {
             let of = format!("one object, new journal of {}", grouped(records));
             let lent = || lend(&map, vec![0; 16 * records]);
             self.row(EDITS, &format!("add, {of}"), lent(), add.clone(), Want::Done);
@@ -182,6 +182,9 @@ impl Bench {
         let map = maps::mixed(8, 2_000, ROOM);
         self.check(WORST, "check: 2,000 blocks, slots live, erased, free at random", &map);
         self.search(WORST, "search: slots live, erased, free at random, all-covering", &map, i32::MAX);
+        let mut map = maps::full(8, 2_000, ROOM);
+        (0..map.slots()).for_each(|slot| map.erase(slot));
+        self.search(WORST, "search: 2,000 blocks, every slot erased, all-covering", &map, i32::MAX);
         let map = maps::symbols(20, 14_000, 348);
         self.check(WORST, "check: 14,000 full symbol blocks, records of 348 bytes", &map);
         let map = maps::symbols(20, 14_000, 32_767);

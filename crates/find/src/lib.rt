@@ -101,7 +101,7 @@ pub fn checked_length(m: &[u8], used: usize) -> usize
     used
 }
 
-// Whether the slot at a place is in a state and its rectangle meets the window. Both tests are made, with no branch between them.
+// Whether the slot at a place is in a state and its rectangle meets the window.
 fn wanted(m: &[u8], at: usize, state: State, w: Window) -> bool
     requires { ⌜ at + slotSize ≤ length (now m) ⌝ }
     ensures { λ r. ⌜ r ≡ wantedAt (now (m .entry)) state w at ⌝ }
@@ -109,7 +109,10 @@ fn wanted(m: &[u8], at: usize, state: State, w: Window) -> bool
     let found = read_slot(m, at);
     let t = found.slot;
     let k = found.state;
-    same_state(state, k) & meets_window(t, w)
+    if !same_state(state, k) {
+        return false;
+    }
+    meets_window(t, w)
 }
 
 // The slots of one index block, the first of which has number `first`, that are in a state and meet the window. So many were found before. Their numbers go to

@@ -130,8 +130,10 @@ fn judge_records(
     Judged::Good { used: i, held }
 }
 
-// A journal with room for so few records gets few trees.
+// A journal with room for so few records, for so many, or for as many as a journal can have.
 const FEW: usize = 64;
+
+const SOME: usize = 512;
 
 const MOST: usize = JournalRecord::LIMIT / JournalRecord::SIZE;
 
@@ -143,6 +145,10 @@ fn judge_journal(j: &[u8], m: &[u8], order: &[u32], n: usize, e: u32) -> Judged
     if j.len() <= JournalRecord::SIZE * FEW {
         let mut links = [0u16; 4 * FEW];
         return judge_records(j, m, order, n, e, &mut links, 2 * FEW);
+    }
+    if j.len() <= JournalRecord::SIZE * SOME {
+        let mut links = [0u16; 4 * SOME];
+        return judge_records(j, m, order, n, e, &mut links, 2 * SOME);
     }
     let mut links = [0u16; 4 * MOST];
     judge_records(j, m, order, n, e, &mut links, 2 * MOST)
