@@ -185,6 +185,8 @@ impl Bench {
         let mut map = maps::full(8, 2_000, ROOM);
         (0..map.slots()).for_each(|slot| map.erase(slot));
         self.search(WORST, "search: 2,000 blocks, every slot erased, all-covering", &map, i32::MAX);
+        let map = maps::large_objects(5);
+        self.check(WORST, "check: 5 objects of 32,768 pairs, a full symbol block", &map);
         let map = maps::symbols(20, 14_000, 348);
         self.check(WORST, "check: 14,000 full symbol blocks, records of 348 bytes", &map);
         let map = maps::symbols(20, 14_000, 32_767);

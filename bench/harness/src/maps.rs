@@ -272,6 +272,21 @@ pub fn symbols(index_blocks: usize, symbol_blocks: usize, size: i16) -> Map {
     map
 }
 
+/// One block with so many of the largest objects, and a full symbol block.
+pub fn large_objects(count: usize) -> Map {
+    let pairs: Vec<(i32, i32)> = (0..32_768).map(|i| (i, -i)).collect();
+    let largest = object(101, &pairs, pairs.len());
+    let mut map = Map::new(8);
+    (0..count).for_each(|_| map.hold(&largest));
+    let mut record = vec![0; 348];
+    record[..2].copy_from_slice(&348i16.to_le_bytes());
+    let position = map.lay(&record);
+    let block = map.lay(&[0; SYMBOL_BLOCK]);
+    map.put(8, block);
+    (1..=256).for_each(|entry| map.put(block + 4 * entry, position));
+    map
+}
+
 /// A journal with room for 4,096 records, the first of them in use: record i holds `number(i)`,
 /// kind 1, 2 and 3 in turn, and a slot of the first `slots`.
 pub fn journal(in_use: usize, slots: usize, mut number: impl FnMut(usize) -> u32) -> Vec<u8> {

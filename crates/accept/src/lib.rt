@@ -414,6 +414,10 @@ fn judge_symbols(m: &[u8], used: usize, index: &[u32], n: usize) -> Judged
         let mut t = [0u32; SymbolBlock::SMALL_TABLE];
         return judge_symbol_blocks(m, used, index, n, &mut t);
     }
+    if used <= Header::MIDDLE {
+        let mut t = [0u32; SymbolBlock::MIDDLE_TABLE];
+        return judge_symbol_blocks(m, used, index, n, &mut t);
+    }
     let mut t = [0u32; SymbolBlock::TABLE];
     judge_symbol_blocks(m, used, index, n, &mut t)
 }

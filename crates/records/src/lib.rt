@@ -59,6 +59,9 @@ impl Header {
     pub const LIMIT: usize = 16777216;
     // A map of at most so many bytes is small, and so are its tables.
     pub const SMALL: usize = 1048576;
+
+    // One that is at most so long gets smaller tables than the longest.
+    pub const MIDDLE: usize = 4194304;
     // Where the version stands.
     pub const VERSION: usize = 4;
 
@@ -141,10 +144,12 @@ pub struct SymbolBlock {
 
 impl SymbolBlock {
     pub const SIZE: usize = 1028;
-    // A table of them goes by pages of so many bytes, and has so many entries, or so many for a small map.
+    // A table of them goes by pages of so many bytes, and has so many entries, or so many for a shorter map.
     pub const PAGE: usize = 1024;
 
     pub const TABLE: usize = 16385;
+
+    pub const MIDDLE_TABLE: usize = 4097;
 
     pub const SMALL_TABLE: usize = 1025;
 

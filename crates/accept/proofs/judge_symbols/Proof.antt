@@ -19,9 +19,15 @@ small c κs =
     let pre = i .before .before .before .before .before .pre in
     (pre .0, pre .1, pre .2, pre .3, pre .4, pre .5, omega (arith, i .if2 .taken), zeros 1025)
 
-large : tie.Need-judge-symbol-blocks-requires-2
+middle : tie.Need-judge-symbol-blocks-requires-2
+middle c κs =
+    let i = c .before in
+    let pre = i .before .before .before .before .before .before .pre in
+    (pre .0, pre .1, pre .2, pre .3, pre .4, pre .5, omega (arith, i .if3 .taken), zeros 4097)
+
+large : tie.Need-judge-symbol-blocks-requires-3
 large c κs =
-    let pre = c .before .before .before .before .before .before .pre in
+    let pre = c .before .before .before .before .before .before .before .pre in
     (pre .0, pre .1, pre .2, pre .3, pre .4, pre .5, omega (arith, pre .1), zeros 16385)
 
 pub judge-symbols-spec : {M : Type 1} → statement M
@@ -32,6 +38,9 @@ judge-symbols-spec =
     returns
     (λ c. search needs)
     small
+    (λ c. search needs)
+    (λ c. search needs)
+    middle
     (λ c. search needs)
     (λ c. search needs)
     large
