@@ -1,5 +1,5 @@
-// A type for each kind of record in a map and in a journal, with its size and small constructors: a block is made from where it starts, the others are read
-// from bytes. A slot and a journal record also have a writer. Nothing here knows of chains or of journals as a whole.
+// A type for each kind of record in a map and in a journal, with its size and small constructors: a block is made from where it starts, a symbol record has its
+// size alone, the others are read from bytes. A slot and a journal record also have a writer. Nothing here knows of chains or of journals as a whole.
 use numbers::i32_at;
 use numbers::put_u16_at;
 use numbers::put_u32_at;
