@@ -4,6 +4,7 @@
 --     Firsts       the first number that passes a test, a run of numbers more at a time
 --     Looking      the look at one cell after the other, and at one block after the other
 --     Verdicts     the parts of the answer
+--     Opens        opening a map is the check up to 6
 --     Slots        the first free slot
 --     Telling      what a good slot and a good symbol record tell
 --     Accepting    what an accepted map tells, and what shows one
@@ -17,6 +18,7 @@ pub mod Looking
 pub mod Slots
 pub mod Telling
 pub mod Verdicts
+pub mod Opens
 pub mod Accepting
 pub mod Meets
 pub mod Frame

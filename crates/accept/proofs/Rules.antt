@@ -1,5 +1,5 @@
--- The laws of the two kinds of chain: as the code hands a kind to the walk, it is the rule of specs/; what the walk needs of it; and where a link can stand.
--- Assumes nothing.
+-- The laws of the two kinds of chain: as the code hands a kind to the walk, it is the rule of specs/; what the walk needs of it; where a link can stand; and how
+-- many index blocks there are at most. Assumes nothing.
 use Prim.Native.Nat.{ℕ, zero, suc, _+_, _*_, _≤_, _<_}
 use mathlib.Core.Bool.{Bool}
 use mathlib.Core.Path.{_≡_, refl, sym, ap, _∙_, subst}
@@ -9,20 +9,24 @@ use lib.ListN.{length}
 use Rattle.numbers.specs.Bytes.{Bytes}
 use Rattle.numbers.proofs.Bytes.{leAt-lt}
 use Rattle.records.specs.declared.Header.{Header}
-use Rattle.records.specs.Sizes.{headerSize, mapLimit, indexBlockSize, indexPage, symbolBlockSize, symbolPage}
+use Rattle.records.specs.Sizes.{headerSize, mapLimit, indexBlockSize, indexPage, mostBlocks, symbolBlockSize, symbolPage}
 use Rattle.records.specs.Headers.{headerOf, setupAt, infoAt, indexHead, symbolHead}
 use Rattle.chain.specs.declared.Kind.{Kind}
 use Rattle.chain.specs.declared.Walk.{Walk}
 use Rattle.chain.specs.declared.Walk.the-variants.{Fault}
 use Rattle.chain.specs.Chains.{Rule, place, walked, taken}
 use Rattle.chain.specs.Tables.{Empty, Placed, Filled, Table, EndsTable, kindRule, Ready}
-use Rattle.chain.proofs.Chains.{fault-tells}
+use Rattle.chain.proofs.Chains.{Pass, few, fault-tells}
 use Rattle.chain.proofs.Tables.{rule-ranges, rule-other}
 use Rattle.chain.proofs.Filling.{empty-filled}
 use Rattle.accept.specs.Rules.{indexRule, symbolRule, indexKind, symbolKind}
 use Rattle.accept.proofs.Judging.{same-touch}
 
 -- ---- index blocks
+
+-- they share no byte, so a map has room for so many
+pub most-blocks : {m : List ℕ} {used n : ℕ} → Pass (indexRule m) m used n → used ≤ mapLimit → n ≤ mostBlocks
+most-blocks h l = omega (arith, few h (omega arith))
 
 module _ (m : List ℕ) {h : Header} {k : Kind} (e : h ≡ headerOf m) (f : k ≡ indexKind h) (none : List ℕ) (g : Empty none) where
   pub index-rule : kindRule k none ≡ indexRule m

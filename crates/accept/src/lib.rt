@@ -24,7 +24,7 @@ ghost use Prim.Native.Nat.{ℕ, _+_, _*_, _≤_, _<_};
 ghost use lib.ListN.{length};
 ghost use Rattle.numbers.specs.Bytes.{u32At};
 ghost use Rattle.numbers.specs.Below.{first};
-ghost use Rattle.records.specs.Sizes.{headerSize, indexBlockSize, indexPage, slotSize, symbolBlockSize, symbolPage, entrySize, mapLimit};
+ghost use Rattle.records.specs.Sizes.{headerSize, indexBlockSize, indexPage, slotSize, symbolBlockSize, symbolPage, entrySize, smallMap, middleMap, mapLimit};
 ghost use Rattle.records.specs.Headers.{indexHead};
 ghost use Rattle.records.specs.Slots.{slotOf, lenGood, bytesIn, bytesInRange};
 ghost use Rattle.chain.specs.Chains.{walked, taken};
@@ -36,6 +36,7 @@ ghost use Rattle.accept.specs.declared.Examined.the-variants as examined
 ghost use Rattle.accept.specs.Slots.{firstFree, freeIn, withFree};
 ghost use Rattle.accept.specs.Rules.{indexRule, symbolRule, indexKind, symbolKind};
 ghost use Rattle.accept.specs.Judging.{partGood, headerFits, objectGood, slotGood, badSlot, symbolGood, badEntry};
+ghost use Rattle.accept.specs.Opens.{openedAfter, openedOf, afterOpened, Open, Opens};
 ghost use Rattle.accept.specs.Verdicts.{numberOf, placeOf, unless, fieldsJudged, headerJudged, cellsJudged, entriesJudged, symbolsJudged, slotsJudged, afterIndex, verdict};
 
 // What the check answers. Refusals carry document 01's number and place.
@@ -47,6 +48,12 @@ pub enum Verdict {
 // What the examination for an edit answers: accepted, with the number of index blocks and the first free slot, 256 times the blocks where none is free.
 pub enum Examined {
     Accepted { blocks: usize, free: usize },
+    Refused { number: u32, place: u32 },
+}
+
+// What 1 to 6 answer: the number of index blocks, or a refusal.
+pub enum Opened {
+    Blocks(usize),
     Refused { number: u32, place: u32 },
 }
 
@@ -205,7 +212,7 @@ pub fn slot_good(m: &[u8], used: usize, version: u16, index: &[u32], t: Slot) ->
 }
 
 // Whether a slot that is not free is live and not good.
-fn bad_slot(m: &[u8], used: usize, version: u16, index: &[u32], t: Slot) -> bool
+pub fn bad_slot(m: &[u8], used: usize, version: u16, index: &[u32], t: Slot) -> bool
     requires { ⌜ (used ≤ mapLimit) × (used ≤ length (now m)) × (used + indexPage ≤ length (now index) * indexPage) × Filled indexBlockSize indexPage used (now index) × (t .len ≡ 0 → ⊥) ⌝ }
     ensures { λ r. ⌜ ((at : ℕ) → t ≡ slotOf (now (m .entry)) at → r ≡ badSlot (endsMeet indexBlockSize (now (index .entry))) (now (m .entry)) used version at) ⌝ }
 {
@@ -249,7 +256,7 @@ fn judge_block_slots(m: &[u8], used: usize, version: u16, index: &[u32], block: 
 
 // 7: the live slot at fault of lowest number. Where there is none, the first free slot, 256 times the blocks where none is free.
 fn judge_slots(m: &[u8], used: usize, index: &[u32], n: usize) -> Examined
-    requires { ⌜ (headerSize ≤ used) × (used ≤ mapLimit) × (used ≤ length (now m)) × (used + indexPage ≤ length (now index) * indexPage) × (walked (indexRule (now m)) (now m) used ≡ Blocks n) × Filled indexBlockSize indexPage used (now index) × EndsTable indexBlockSize indexHead indexPage (now m) n (now index) ⌝ }
+    requires { ⌜ Open (now m) used n (now index) ⌝ }
     ensures { λ r. ⌜ r ≡ withFree (now (m .entry)) (unless (slotsJudged (now (m .entry)) used n) (Accepted n)) ⌝ }
 {
     let version = u16_at(m, Header::VERSION);
@@ -402,6 +409,33 @@ fn judge_symbol_blocks(m: &[u8], used: usize, index: &[u32], n: usize, t: &mut [
     }
 }
 
+// 6, of a small map. Each size of the table stands in a function of its own: so the compiler gives them the same room.
+fn small_symbols(m: &[u8], used: usize, index: &[u32], n: usize) -> Judged
+    requires { ⌜ (headerSize ≤ used) × (used ≤ smallMap) × (used ≤ length (now m)) × (used + indexPage ≤ length (now index) * indexPage) × Filled indexBlockSize indexPage used (now index) × EndsTable indexBlockSize indexHead indexPage (now m) n (now index) ⌝ }
+    ensures { λ r. ⌜ r ≡ symbolsJudged (now (m .entry)) used n ⌝ }
+{
+    let mut t = [0u32; SymbolBlock::SMALL_TABLE];
+    judge_symbol_blocks(m, used, index, n, &mut t)
+}
+
+// 6, of a map of middle size.
+fn middle_symbols(m: &[u8], used: usize, index: &[u32], n: usize) -> Judged
+    requires { ⌜ (headerSize ≤ used) × (used ≤ middleMap) × (used ≤ length (now m)) × (used + indexPage ≤ length (now index) * indexPage) × Filled indexBlockSize indexPage used (now index) × EndsTable indexBlockSize indexHead indexPage (now m) n (now index) ⌝ }
+    ensures { λ r. ⌜ r ≡ symbolsJudged (now (m .entry)) used n ⌝ }
+{
+    let mut t = [0u32; SymbolBlock::MIDDLE_TABLE];
+    judge_symbol_blocks(m, used, index, n, &mut t)
+}
+
+// 6, of any map.
+fn large_symbols(m: &[u8], used: usize, index: &[u32], n: usize) -> Judged
+    requires { ⌜ (headerSize ≤ used) × (used ≤ mapLimit) × (used ≤ length (now m)) × (used + indexPage ≤ length (now index) * indexPage) × Filled indexBlockSize indexPage used (now index) × EndsTable indexBlockSize indexHead indexPage (now m) n (now index) ⌝ }
+    ensures { λ r. ⌜ r ≡ symbolsJudged (now (m .entry)) used n ⌝ }
+{
+    let mut t = [0u32; SymbolBlock::TABLE];
+    judge_symbol_blocks(m, used, index, n, &mut t)
+}
+
 // 6, with a table as large as the map needs: none where there are no symbol blocks.
 fn judge_symbols(m: &[u8], used: usize, index: &[u32], n: usize) -> Judged
     requires { ⌜ (headerSize ≤ used) × (used ≤ mapLimit) × (used ≤ length (now m)) × (used + indexPage ≤ length (now index) * indexPage) × Filled indexBlockSize indexPage used (now index) × EndsTable indexBlockSize indexHead indexPage (now m) n (now index) ⌝ }
@@ -411,55 +445,67 @@ fn judge_symbols(m: &[u8], used: usize, index: &[u32], n: usize) -> Judged
         return Judged::Good;
     }
     if used <= Header::SMALL {
-        let mut t = [0u32; SymbolBlock::SMALL_TABLE];
-        return judge_symbol_blocks(m, used, index, n, &mut t);
+        return small_symbols(m, used, index, n);
     }
     if used <= Header::MIDDLE {
-        let mut t = [0u32; SymbolBlock::MIDDLE_TABLE];
-        return judge_symbol_blocks(m, used, index, n, &mut t);
+        return middle_symbols(m, used, index, n);
     }
-    let mut t = [0u32; SymbolBlock::TABLE];
-    judge_symbol_blocks(m, used, index, n, &mut t)
+    large_symbols(m, used, index, n)
 }
 
-// 6, then 7, of a map whose index blocks are good.
-fn judge_objects(m: &[u8], used: usize, index: &[u32], n: usize) -> Examined
-    requires { ⌜ (headerSize ≤ used) × (used ≤ mapLimit) × (used ≤ length (now m)) × (used + indexPage ≤ length (now index) * indexPage) × (walked (indexRule (now m)) (now m) used ≡ Blocks n) × Filled indexBlockSize indexPage used (now index) × EndsTable indexBlockSize indexHead indexPage (now m) n (now index) ⌝ }
-    ensures { λ r. ⌜ r ≡ withFree (now (m .entry)) (afterIndex (now (m .entry)) used (Blocks n)) ⌝ }
-{
-    let symbols = judge_symbols(m, used, index, n);
-    match symbols {
-        Judged::Bad { number, place } => Examined::Refused { number, place },
-        Judged::Good => judge_slots(m, used, index, n),
-    }
-}
-
-// 6, then 7, of a map whose index blocks are good. Their table is filled first.
-fn judge_rest(m: &[u8], used: usize, index: &mut [u32], n: usize) -> Examined
+// 6, of a map whose index blocks are good. Their table is filled first.
+fn open_symbols(m: &[u8], used: usize, index: &mut [u32], n: usize) -> Opened
     requires { ⌜ (headerSize ≤ used) × (used ≤ mapLimit) × (used ≤ length (now m)) × (used + indexPage ≤ length (now index) * indexPage) × (walked (indexRule (now m)) (now m) used ≡ Blocks n) × Placed indexPage (now index) × Table indexHead indexPage (now m) n (now index) ⌝ }
-    ensures { λ r. ⌜ (r ≡ withFree (now (m .entry)) (afterIndex (now (m .entry)) used (Blocks n))) × Filled indexBlockSize indexPage used (now (index .exit)) × EndsTable indexBlockSize indexHead indexPage (now (m .entry)) n (now (index .exit)) ⌝ }
+    ensures { λ r. ⌜ (r ≡ openedAfter (now (m .entry)) used (Blocks n)) × Opens (now (m .entry)) used (now (index .exit)) r ⌝ }
 {
     fill(
         index,
         (used - 1) / IndexBlock::PAGE + 2,
         IndexBlock::SIZE as u32,
     );
-    judge_objects(m, used, index, n)
+    let symbols = judge_symbols(m, used, index, n);
+    match symbols {
+        Judged::Bad { number, place } => Opened::Refused { number, place },
+        Judged::Good => Opened::Blocks(n),
+    }
 }
 
-// 5: the index blocks; then the rest. The table has the index blocks, filled, where the map is accepted.
-fn judge_index(m: &[u8], used: usize, index: &mut [u32]) -> Examined
+// 5, then 6.
+fn open_index(m: &[u8], used: usize, index: &mut [u32]) -> Opened
     requires { ⌜ (headerSize ≤ used) × (used ≤ mapLimit) × (used ≤ length (now m)) × (used + indexPage ≤ length (now index) * indexPage) × Empty (now index) ⌝ }
-    ensures { λ r. ⌜ (r ≡ withFree (now (m .entry)) (afterIndex (now (m .entry)) used (walked (indexRule (now (m .entry))) (now (m .entry)) used))) × ((n free : ℕ) → r ≡ examined.Accepted n free → Filled indexBlockSize indexPage used (now (index .exit)) × EndsTable indexBlockSize indexHead indexPage (now (m .entry)) n (now (index .exit))) ⌝ }
+    ensures { λ r. ⌜ (r ≡ openedAfter (now (m .entry)) used (walked (indexRule (now (m .entry))) (now (m .entry)) used)) × Opens (now (m .entry)) used (now (index .exit)) r ⌝ }
 {
     let none = [0u32; 2];
     let w = walk_chain(m, used, index_kind(Header::of(m)), &none, index);
     match w {
-        Walk::Blocks(n) => judge_rest(m, used, index, n),
-        Walk::Fault { place, taken: _ } => Examined::Refused {
+        Walk::Blocks(n) => open_symbols(m, used, index, n),
+        Walk::Fault { place, taken: _ } => Opened::Refused {
             number: 5,
             place: place as u32,
         },
+    }
+}
+
+// 1 to 6, with a lent table, empty before, that has the index blocks, filled, afterwards where they are good. What is left of the check is 7.
+pub fn open_map(m: &[u8], used: usize, index: &mut [u32]) -> Opened
+    requires { ⌜ (used ≤ mapLimit → used + indexPage ≤ length (now index) * indexPage) × Empty (now index) ⌝ }
+    ensures { λ r. ⌜ (r ≡ openedOf (now (m .entry)) used) × Opens (now (m .entry)) used (now (index .exit)) r ⌝ }
+{
+    let j = judge_header(m, used);
+    match j {
+        Judged::Bad { number, place } => Opened::Refused { number, place },
+        Judged::Good => open_index(m, used, index),
+    }
+}
+
+// 7, of a map that was opened. It stands apart from the opening, whose tables are then gone.
+fn examine_opened(m: &[u8], used: usize, index: &[u32], o: Opened) -> Examined
+    requires { ⌜ Opens (now m) used (now index) o ⌝ }
+    ensures { λ r. ⌜ r ≡ withFree (now (m .entry)) (afterOpened (now (m .entry)) used o) ⌝ }
+{
+    match o {
+        Opened::Refused { number, place } => Examined::Refused { number, place },
+        Opened::Blocks(n) => judge_slots(m, used, index, n),
     }
 }
 
@@ -468,11 +514,8 @@ pub fn examine(m: &[u8], used: usize, index: &mut [u32]) -> Examined
     requires { ⌜ (used ≤ mapLimit → used + indexPage ≤ length (now index) * indexPage) × Empty (now index) ⌝ }
     ensures { λ r. ⌜ (r ≡ withFree (now (m .entry)) (verdict (now (m .entry)) used)) × ((n free : ℕ) → r ≡ examined.Accepted n free → Filled indexBlockSize indexPage used (now (index .exit)) × EndsTable indexBlockSize indexHead indexPage (now (m .entry)) n (now (index .exit))) ⌝ }
 {
-    let j = judge_header(m, used);
-    match j {
-        Judged::Bad { number, place } => Examined::Refused { number, place },
-        Judged::Good => judge_index(m, used, index),
-    }
+    let o = open_map(m, used, index);
+    examine_opened(m, used, index, o)
 }
 
 // 5, 6 and 7 of a map whose header is good, with a lent table, empty before.
@@ -480,7 +523,8 @@ fn judge_with(m: &[u8], used: usize, index: &mut [u32]) -> Verdict
     requires { ⌜ (headerSize ≤ used) × (used ≤ mapLimit) × (used ≤ length (now m)) × (used + indexPage ≤ length (now index) * indexPage) × Empty (now index) ⌝ }
     ensures { λ r. ⌜ r ≡ afterIndex (now (m .entry)) used (walked (indexRule (now (m .entry))) (now (m .entry)) used) ⌝ }
 {
-    let e = judge_index(m, used, index);
+    let o = open_index(m, used, index);
+    let e = examine_opened(m, used, index, o);
     match e {
         Examined::Accepted { blocks, free: _ } => Verdict::Accepted { blocks },
         Examined::Refused { number, place } => Verdict::Refused { number, place },

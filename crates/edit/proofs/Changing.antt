@@ -14,7 +14,7 @@ use Rattle.records.specs.declared.Slot.{Slot}
 use Rattle.records.specs.declared.State.{State}
 use Rattle.records.specs.declared.State.the-variants.{Erased, Live}
 use Rattle.records.specs.Slots.{stateOf, sameState}
-use Rattle.records.specs.Sizes.{indexBlockSize, indexPage}
+use Rattle.records.specs.Sizes.{indexBlockSize, indexPage, mostBlocks}
 use Rattle.records.specs.Headers.{indexHead}
 use Rattle.records.specs.Journals.{recordFor}
 use Rattle.chain.specs.Chains.{block}
@@ -30,6 +30,7 @@ use Rattle.accept.proofs.Accepting.{Holds}
 use Rattle.accept.proofs.Judging.{bytes-least}
 use Rattle.accept.proofs.Telling.{and-true, slot-tells}
 use Rattle.accept.proofs.Judging.{same-touch}
+use Rattle.accept.proofs.Rules.{most-blocks}
 use Rattle.accept.proofs.Writes.{pass-of, slot-lies}
 use Rattle.journal.specs.declared.Look.{Look}
 use Rattle.journal.specs.declared.Look.the-variants as looks
@@ -49,8 +50,8 @@ use Rattle.edit.proofs.Syms.{len-some, has-tells, accepted-good}
 
 module _ {m : List ℕ} {used n : ℕ} (h : Holds m used n) where
   -- an accepted map has at most as many index blocks as the tables of an edit have room for
-  pub few-blocks : n ≤ 2728
-  few-blocks = omega (arith, few (pass-of h) (omega arith), h .limit)
+  pub few-blocks : n ≤ mostBlocks
+  few-blocks = most-blocks (pass-of h) (h .limit)
 
   -- a table with room for them has an entry for each
   pub blocks-fit : {index o : List ℕ} → Roomy used index o → n ≤ length o

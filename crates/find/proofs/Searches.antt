@@ -7,7 +7,7 @@
 --     blocks-walked      the blocks that it gives are the chain's
 --     listed, kept, length-kept     the lent list afterwards: the list found in the first entries, what it held in the others, as many as before
 --     list-found         the same as one equation
---     refusal-leaves     after a refusal all is as it was
+--     refusal-leaves, window-leaves      after a refusal, and after a window that is not good, all is as it was
 --     view-answers, view-lists      a search through a view is the search
 use Prim.Native.Nat.{ℕ, _*_, _≤_, _<_}
 use mathlib.Core.Bool.{Bool, true, false, cond, and-eq-true-iff}
@@ -176,6 +176,14 @@ module _ (m : List ℕ) (used : ℕ) (w : Window) (l : List ℕ) where
       go (Found c b) e h = rw (by-answer e) (getD-sets-high (found m b w) l 0 i (omega (arith, found-tells m used w (length l) e .counted)))
       go (Short c) e h = rw (by-answer e)
       go (Refused k p) e h = rw (by-answer e)
+
+  -- a window that is not good
+  pub window-leaves : windowGood w ≡ false → listAfter m used w l ≡ l
+  window-leaves g = go (verdict m used) refl
+    where
+      go : (v : Verdict) → verdict m used ≡ v → listAfter m used w l ≡ l
+      go (verdicts.Refused k p) e = by-answer (answer-refused m used w (length l) e)
+      go (verdicts.Accepted n) e = by-answer (answer-window m used w (length l) e g)
 
   pub refusal-leaves : (numberOf (answerOf m used w (length l)) ≡ 0 → ⊥) → listAfter m used w l ≡ l
   refusal-leaves = go (answerOf m used w (length l)) refl

@@ -1,5 +1,7 @@
 -- The definitions that the contracts of `find` cite.
 --     Searches     the search: which slots it lists, what it answers, what the lent list holds afterwards
+--     Looks        the look at the slots in one pass, a bit for each
 --     Inputs       the search program's input: a window, then a map
 pub mod Searches
+pub mod Looks
 pub mod Inputs

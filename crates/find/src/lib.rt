@@ -1,25 +1,37 @@
-// The search by rectangle: one look at the slots, block by block, which counts and lists.
+// The search by rectangle: one pass over the slots, which judges each and has a bit for it, and then the list of the bits that are 1.
+use accept::Opened;
 use accept::Verdict;
+use accept::bad_slot;
+use accept::open_map;
+use bits::WORD;
+use bits::list_words;
+use numbers::u16_at;
 use numbers::u32_at;
 use records::Header;
+use records::IndexBlock;
 use records::Slot;
-use records::State;
 use records::Window;
 use records::meets_window;
-use records::read_slot;
-use records::same_state;
 use records::window_good;
 ghost use mathlib.Core.Path.{_≡_};
+ghost use mathlib.Core.Bool.{true, false};
 ghost use Prim.Native.Nat.{ℕ, _+_, _*_, _≤_, _<_};
 ghost use mathlib.Core.List.{List};
-ghost use lib.ListN.{length, take};
-ghost use lib.Seq.{sets};
-ghost use Rattle.numbers.specs.Below.{sel};
-ghost use Rattle.records.specs.Sizes.{headerSize, indexBlockSize, slotSize, mapLimit};
-ghost use Rattle.chain.specs.Chains.{walked};
-ghost use Rattle.chain.specs.declared.Walk.the-variants.{Blocks};
-ghost use Rattle.accept.specs.Rules.{indexRule};
-ghost use Rattle.find.specs.Searches.{numberOf, placeOf, countOf, blocksOf, checkedLength, wantedAt, wantedIn, SlotsOf, selected, found, answerOf, listAfter};
+ghost use lib.ListN.{length};
+ghost use Rattle.numbers.specs.Below.{first, sel};
+ghost use Rattle.records.specs.Sizes.{indexBlockSize, indexPage, mostBlocks, slotSize, mapLimit};
+ghost use Rattle.records.specs.declared.Window.{Window};
+ghost use Rattle.records.specs.Windows.{windowGood};
+ghost use Rattle.bits.specs.Bits.{bitsFrom, wordBits};
+ghost use Rattle.chain.specs.Cells.{cellIn};
+ghost use Rattle.chain.specs.Tables.{Filled, endsMeet};
+ghost use Rattle.accept.specs.declared.Judged.the-variants.{Good, Bad};
+ghost use Rattle.accept.specs.Judging.{badSlot};
+ghost use Rattle.accept.specs.Opens.{Open, Opens, openedOf};
+ghost use Rattle.accept.specs.declared.Opened.the-variants.{Blocks};
+ghost use Rattle.accept.specs.Verdicts.{slotsJudged};
+ghost use Rattle.find.specs.Searches.{numberOf, placeOf, countOf, blocksOf, checkedLength, SlotsOf, liveIn, found, answerOf, listAfter};
+ghost use Rattle.find.specs.Looks.{blockWords, slotFrom, liveFrom, Marked};
 ghost use Rattle.find.specs.Inputs.{inputAnswer, inputList};
 
 // What a search answers: the count found and the blocks walked; or the count that the list is too short for; or a refusal.
@@ -101,128 +113,249 @@ pub fn checked_length(m: &[u8], used: usize) -> usize
     used
 }
 
-// Whether the slot at a place is in a state and its rectangle meets the window.
-fn wanted(m: &[u8], at: usize, state: State, w: Window) -> bool
-    requires { ⌜ at + slotSize ≤ length (now m) ⌝ }
-    ensures { λ r. ⌜ r ≡ wantedAt (now (m .entry)) state w at ⌝ }
-{
-    let found = read_slot(m, at);
-    let t = found.slot;
-    let k = found.state;
-    if !same_state(state, k) {
-        return false;
-    }
-    meets_window(t, w)
+// What a word's slots are: the first at fault, 64 where none is. Where none is, which of them are live and meet the window, as bits, the first the lowest; and
+// how many are found with those before.
+struct Word {
+    bits: u64,
+    count: usize,
+    bad: usize,
 }
 
-// The slots of one index block, the first of which has number `first`, that are in a state and meet the window. So many were found before. Their numbers go to
-// the list behind those, as far as there is room, and all of them are counted.
-fn select_in_block(
+// The bits of an index block's slots are so many words.
+const BLOCK_WORDS: usize = 4;
+
+// The highest bit of a word.
+const HIGH: u64 = 9223372036854775808;
+
+// A word's slots in a row, from a place on: judged, and looked at, up to the first at fault. So many were found before.
+fn look_in_word(
     m: &[u8],
-    block: usize,
-    first: usize,
-    state: State,
+    used: usize,
+    version: u16,
+    index: &[u32],
+    from: usize,
     w: Window,
-    list: &mut [u32],
     before: usize,
-) -> usize
-    requires { ⌜ (block + indexBlockSize ≤ length (now m)) × (first + 256 ≤ 4294967296) × SlotsOf (now m) block first × (before ≡ length (sel (wantedIn (now m) state w) first)) ⌝ }
-    ensures { λ r. ⌜ (r ≡ length (sel (wantedIn (now (m .entry)) state w) (first + 256))) × ((l : List ℕ) → now (list .entry) ≡ sets l 0 (sel (wantedIn (now (m .entry)) state w) first) → now (list .exit) ≡ sets l 0 (sel (wantedIn (now (m .entry)) state w) (first + 256))) ⌝ }
+) -> Word
+    requires { ⌜ (from + wordBits * slotSize ≤ used) × (used ≤ mapLimit) × (used ≤ length (now m)) × (used + indexPage ≤ length (now index) * indexPage) × Filled indexBlockSize indexPage used (now index) × (before ≤ mapLimit) ⌝ }
+    ensures { λ r. ⌜ (r .bad ≡ first (λ j. badSlot (endsMeet indexBlockSize (now (index .entry))) (now (m .entry)) used version (slotFrom from j)) wordBits) × (r .bad ≡ wordBits → (r .bits ≡ bitsFrom (liveFrom (now (m .entry)) w from) 0 wordBits) × (r .count ≡ before + length (sel (liveFrom (now (m .entry)) w from) wordBits))) ⌝ }
 {
-    let mut at = block + 4;
+    let mut at = from;
+    let mut bits = 0u64;
     let mut count = before;
-    let mut s = first;
-    while s < first + 256 {
-        let hit = wanted(m, at, state, w);
-        if hit & (count < list.len()) {
-            list[count] = s as u32;
+    let mut j = 0usize;
+    while j < WORD {
+        let t = Slot::at(m, at);
+        bits = bits / 2;
+        if t.len != 0 {
+            if bad_slot(m, used, version, index, t) {
+                return Word {
+                    bits,
+                    count,
+                    bad: j,
+                };
+            }
+            if t.sym != 0 {
+                let hit = meets_window(t, w);
+                bits += hit as u64 * HIGH;
+                count += hit as usize;
+            }
         }
-        count += hit as usize;
         at += Slot::SIZE;
-        s += 1;
+        j += 1;
     }
-    count
+    Word {
+        bits,
+        count,
+        bad: WORD,
+    }
 }
 
-// The slots of an accepted map's n index blocks that are in a state and meet the window: their numbers go to the list as far as there is room, and all of them
-// are counted.
-fn select_slots(m: &[u8], used: usize, n: usize, state: State, w: Window, list: &mut [u32]) -> usize
-    requires { ⌜ (headerSize ≤ used) × (used ≤ mapLimit) × (used ≤ length (now m)) × (walked (indexRule (now m)) (now m) used ≡ Blocks n) ⌝ }
-    ensures { λ r. ⌜ (r ≡ length (selected (now (m .entry)) n state w)) × (now (list .exit) ≡ sets (now (list .entry)) 0 (selected (now (m .entry)) n state w)) ⌝ }
+// What the slots of a block, or of all blocks, are: the first at fault; and, where none is, how many are found.
+struct Looked {
+    bad: usize,
+    count: usize,
+}
+
+// The 256 slots of index block k: judged, and looked at, up to the first at fault; 256 where none is. So many were found before, in the blocks before. The slots' bits
+// go to the block's words.
+fn look_in_block(
+    m: &[u8],
+    used: usize,
+    version: u16,
+    index: &[u32],
+    block: usize,
+    k: usize,
+    w: Window,
+    words: &mut [u64],
+    before: usize,
+) -> Looked
+    requires { ⌜ (block + indexBlockSize ≤ used) × (used ≤ mapLimit) × (used ≤ length (now m)) × (used + indexPage ≤ length (now index) * indexPage) × Filled indexBlockSize indexPage used (now index) × SlotsOf (now m) block (256 * k) × (k < mostBlocks) × (blockWords * k + blockWords ≤ length (now words)) × (before ≡ length (sel (liveIn (now m) w) (256 * k))) × Marked (now m) w (now words) (blockWords * k) ⌝ }
+    ensures { λ r. ⌜ (r .bad ≡ first (λ j. badSlot (endsMeet indexBlockSize (now (index .entry))) (now (m .entry)) used version (cellIn block slotSize j)) 256) × (r .bad ≡ 256 → (r .count ≡ length (sel (liveIn (now (m .entry)) w) (256 * k + 256))) × Marked (now (m .entry)) w (now (words .exit)) (blockWords * k + blockWords)) ⌝ }
 {
+    let mut count = before;
+    let mut q = 0usize;
+    while q < BLOCK_WORDS {
+        let x = look_in_word(
+            m,
+            used,
+            version,
+            index,
+            block + 4 + WORD * Slot::SIZE * q,
+            w,
+            count,
+        );
+        if x.bad < WORD {
+            return Looked {
+                bad: WORD * q + x.bad,
+                count,
+            };
+        }
+        words[BLOCK_WORDS * k + q] = x.bits;
+        count = x.count;
+        q += 1;
+    }
+    Looked { bad: 256, count }
+}
+
+// The slots of an open map's n index blocks, up to the first at fault: its place, 0 where none is.
+fn look_in_slots(
+    m: &[u8],
+    used: usize,
+    index: &[u32],
+    n: usize,
+    w: Window,
+    words: &mut [u64],
+) -> Looked
+    requires { ⌜ Open (now m) used n (now index) × (blockWords * n ≤ length (now words)) ⌝ }
+    ensures { λ r. ⌜ (r .bad ≡ 0 → (slotsJudged (now (m .entry)) used n ≡ Good) × (r .count ≡ length (found (now (m .entry)) n w)) × Marked (now (m .entry)) w (now (words .exit)) (blockWords * n)) × ((r .bad ≡ 0 → ⊥) → slotsJudged (now (m .entry)) used n ≡ Bad 7 (r .bad)) × (r .bad ≤ mapLimit) ⌝ }
+{
+    let version = u16_at(m, Header::VERSION);
     let mut at = u32_at(m, Header::INDEX) as usize;
     let mut count = 0;
     let mut k = 0;
     while k < n {
-        count = select_in_block(m, at, 256 * k, state, w, list, count);
+        let seen = look_in_block(m, used, version, index, at, k, w, words, count);
+        if seen.bad < 256 {
+            return Looked {
+                bad: IndexBlock::new(at).slot(seen.bad),
+                count,
+            };
+        }
+        count = seen.count;
         at = u32_at(m, at) as usize;
         k += 1;
     }
-    count
+    Looked { bad: 0, count }
 }
 
-// The first n entries of one list, over those of another.
-fn copy_first(list: &mut [u32], few: &[u32], n: usize)
-    requires { ⌜ (n ≤ length (now few)) × (n ≤ length (now list)) ⌝ }
-    ensures { λ r. ⌜ now (list .exit) ≡ sets (now (list .entry)) 0 (take n (now (few .entry))) ⌝ }
+// The search of an open map by a good window, with words enough for a bit for each slot: all slots are judged and looked at before the list is touched.
+fn search_words(
+    m: &[u8],
+    used: usize,
+    index: &[u32],
+    n: usize,
+    w: Window,
+    list: &mut [u32],
+    words: &mut [u64],
+) -> Answer
+    requires { ⌜ Open (now m) used n (now index) × (openedOf (now m) used ≡ Blocks n) × (windowGood w ≡ true) × (blockWords * n ≤ length (now words)) ⌝ }
+    ensures { λ r. ⌜ (r ≡ answerOf (now (m .entry)) used w (length (now (list .entry)))) × (now (list .exit) ≡ listAfter (now (m .entry)) used w (now (list .entry))) ⌝ }
 {
-    let mut i = 0;
-    while i < n {
-        list[i] = few[i];
-        i += 1;
+    let l = look_in_slots(m, used, index, n, w, words);
+    if l.bad != 0 {
+        return Answer::Refused {
+            number: 7,
+            place: l.bad as u32,
+        };
     }
-}
-
-// So many slots are kept while they are counted.
-const FEW: usize = 256;
-
-// The live slots that meet the window, listed where the list has room for all of them, and counted. A list that may be too short is not written to before the
-// slots are counted; where they are few, that is all it takes.
-fn list_found(m: &[u8], used: usize, n: usize, w: Window, list: &mut [u32]) -> usize
-    requires { ⌜ (headerSize ≤ used) × (used ≤ mapLimit) × (used ≤ length (now m)) × (walked (indexRule (now m)) (now m) used ≡ Blocks n) ⌝ }
-    ensures { λ r. ⌜ (r ≡ length (found (now (m .entry)) n w)) × (r ≤ length (now (list .entry)) → now (list .exit) ≡ sets (now (list .entry)) 0 (found (now (m .entry)) n w)) × (length (now (list .entry)) < r → now (list .exit) ≡ now (list .entry)) ⌝ }
-{
-    if 256 * n <= list.len() {
-        return select_slots(m, used, n, State::Live, w, list);
-    }
-    let mut few = [0u32; FEW];
-    let count = select_slots(m, used, n, State::Live, w, &mut few);
+    let count = l.count;
     if list.len() < count {
-        return count;
+        return Answer::Short {
+            count: count as u32,
+        };
     }
-    if FEW < count {
-        return select_slots(m, used, n, State::Live, w, list);
+    list_words(list, words, BLOCK_WORDS * n);
+    Answer::Found {
+        count: count as u32,
+        blocks: n as u32,
     }
-    copy_first(list, &few, count);
-    count
+}
+
+// So many blocks are few.
+const FEW: usize = 16;
+
+// The same, with words as many as the map needs.
+fn search_slots(
+    m: &[u8],
+    used: usize,
+    index: &[u32],
+    n: usize,
+    w: Window,
+    list: &mut [u32],
+) -> Answer
+    requires { ⌜ Open (now m) used n (now index) × (openedOf (now m) used ≡ Blocks n) × (windowGood w ≡ true) ⌝ }
+    ensures { λ r. ⌜ (r ≡ answerOf (now (m .entry)) used w (length (now (list .entry)))) × (now (list .exit) ≡ listAfter (now (m .entry)) used w (now (list .entry))) ⌝ }
+{
+    if n <= FEW {
+        let mut words = [0u64; BLOCK_WORDS * FEW];
+        return search_words(m, used, index, n, w, list, &mut words);
+    }
+    if n <= IndexBlock::SMALL_MOST {
+        let mut words = [0u64; BLOCK_WORDS * IndexBlock::SMALL_MOST];
+        return search_words(m, used, index, n, w, list, &mut words);
+    }
+    let mut words = [0u64; BLOCK_WORDS * IndexBlock::MOST];
+    search_words(m, used, index, n, w, list, &mut words)
+}
+
+// The search by a good window of a map that was opened. It stands apart from the opening, whose tables are then gone.
+fn search_opened(
+    m: &[u8],
+    used: usize,
+    index: &[u32],
+    o: Opened,
+    w: Window,
+    list: &mut [u32],
+) -> Answer
+    requires { ⌜ Opens (now m) used (now index) o × (o ≡ openedOf (now m) used) × (windowGood w ≡ true) ⌝ }
+    ensures { λ r. ⌜ (r ≡ answerOf (now (m .entry)) used w (length (now (list .entry)))) × (now (list .exit) ≡ listAfter (now (m .entry)) used w (now (list .entry))) ⌝ }
+{
+    match o {
+        Opened::Refused { number, place } => Answer::Refused { number, place },
+        Opened::Blocks(n) => search_slots(m, used, index, n, w, list),
+    }
+}
+
+// What a window that is not good answers: the check's refusal, or 8.
+fn bad_window(m: &[u8], used: usize) -> Answer
+    ensures { λ r. ⌜ ((w : Window) → (room : ℕ) → windowGood w ≡ false → r ≡ answerOf (now (m .entry)) used w room) ⌝ }
+{
+    let v = accept::check(m, used);
+    match v {
+        Verdict::Refused { number, place } => Answer::Refused { number, place },
+        Verdict::Accepted { blocks: _ } => Answer::Refused {
+            number: 8,
+            place: 0,
+        },
+    }
 }
 
 // The search. Any slice, any `used`, any window, any list.
 pub fn search(m: &[u8], used: usize, w: Window, list: &mut [u32]) -> Answer
     ensures { λ r. ⌜ (r ≡ answerOf (now (m .entry)) used w (length (now (list .entry)))) × (now (list .exit) ≡ listAfter (now (m .entry)) used w (now (list .entry))) ⌝ }
 {
-    let v = accept::check(m, used);
-    match v {
-        Verdict::Refused { number, place } => Answer::Refused { number, place },
-        Verdict::Accepted { blocks } => {
-            if !window_good(w) {
-                return Answer::Refused {
-                    number: 8,
-                    place: 0,
-                };
-            }
-            let count = list_found(m, used, blocks, w, list);
-            if list.len() < count {
-                return Answer::Short {
-                    count: count as u32,
-                };
-            }
-            Answer::Found {
-                count: count as u32,
-                blocks: blocks as u32,
-            }
-        }
+    if !window_good(w) {
+        return bad_window(m, used);
     }
+    if used <= Header::SMALL {
+        let mut index = [0u32; IndexBlock::SMALL_TABLE];
+        let o = open_map(m, used, &mut index);
+        return search_opened(m, used, &index, o, w, list);
+    }
+    let mut index = [0u32; IndexBlock::TABLE];
+    let o = open_map(m, used, &mut index);
+    search_opened(m, used, &index, o, w, list)
 }
 
 // The search program takes a map of at most so many bytes.

@@ -12,6 +12,10 @@ indexBlockSize = 6148
 abbrev pub slotSize : ℕ
 slotSize = 24
 
+-- a map of the largest size has room for so many index blocks
+abbrev pub mostBlocks : ℕ
+mostBlocks = 2728
+
 -- a table of index blocks goes by pages of so many bytes, fewer than a block has
 abbrev pub indexPage : ℕ
 indexPage = 4096
@@ -47,6 +51,13 @@ windowSize = 16
 
 abbrev pub journalRecordSize : ℕ
 journalRecordSize = 16
+
+-- a small map is at most so long, and one of middle size: the tables of blocks are smaller for it
+abbrev pub smallMap : ℕ
+smallMap = 1048576
+
+abbrev pub middleMap : ℕ
+middleMap = 4194304
 
 -- a map is at most so long, and a journal
 abbrev pub mapLimit : ℕ

@@ -17,7 +17,7 @@ ghost use lib.Seq.{sets};
 ghost use Rattle.numbers.specs.Coordinates.{unmarked};
 ghost use Rattle.records.specs.Sizes.{headerSize, slotSize, objectHeaderSize, pairSize, windowSize, journalRecordSize};
 ghost use Rattle.records.specs.Headers.{headerOf, partOf, pairGood};
-ghost use Rattle.records.specs.Slots.{slotOf, slotBytes, stateOf, stateNumber, sameState, foundAt, bytesIn, bytesInRange, lenOf};
+ghost use Rattle.records.specs.Slots.{slotOf, slotBytes, stateOf, foundAt, bytesIn, bytesInRange, lenOf};
 ghost use Rattle.records.specs.Objects.{objectOf, typeGood, xOf, yOf, lesserOf, greaterOf, pointAt, joined, withoutMarks, rectangleOf};
 ghost use Rattle.records.specs.Windows.{windowOf, windowGood, meetsWindow};
 ghost use Rattle.records.specs.Symbols.{sizeGood};
@@ -168,24 +168,6 @@ pub enum State {
     Free,
     Erased,
     Live,
-}
-
-// A number for each state.
-fn state_number(k: State) -> u32
-    ensures { λ r. ⌜ r ≡ stateNumber k ⌝ }
-{
-    match k {
-        State::Free => 0,
-        State::Erased => 1,
-        State::Live => 2,
-    }
-}
-
-// Whether two states are the same.
-pub fn same_state(j: State, k: State) -> bool
-    ensures { λ r. ⌜ r ≡ sameState j k ⌝ }
-{
-    state_number(j) == state_number(k)
 }
 
 // A slot of an index block. Coordinates are raw; Sym is kept as its sixteen bits.

@@ -48,7 +48,7 @@ loop-holds : tie.Need-loop-holds Inv-loop μ-loop
 unfolding place
 loop-holds c =
     let s = c .before .before .before .before in (
-      along-start (walked-pass (indexRule (now (s .args .m))) (now (s .args .m)) (s .args .used) (s .pre .4)) (omega arith),
+      along-start (walked-pass (indexRule (now (s .args .m))) (now (s .args .m)) (s .args .used) (s .pre .index)) (omega arith),
       c .u32-at .ensures,
       sym (or-none (is-free (now (s .args .m))) (256 * s .args .n)),
     )
@@ -60,14 +60,14 @@ inside c = along-inside (c .before .loop .inv .0) (c .loop-test .taken) (c .befo
 judge-block-slots-requires : tie.Need-judge-block-slots-requires Inv-loop μ-loop
 judge-block-slots-requires c κs =
     let pre = c .before .before .before .before .before .before .pre in
-    (inside c, pre .1, pre .2, pre .3, pre .5)
+    (inside c, pre .limit, pre .room, pre .wide, pre .filled)
 
 -- the first slot of the block at fault, by the chain in the place of the table
 bad : (c : tie.After-judge-block-slots Inv-loop μ-loop) → let l = c .before .before in let a = l .before .before .before .before .before .args in First (λ j. at-fault (now (a .m)) (a .used) (a .n) (cellIn (l .loop .at) slotSize j)) 256 (c .judge-block-slots .result .bad)
 bad c =
     let v = c .before .before .before .before in
     let a = v .before .before .before .args in
-    rw (c .judge-block-slots .ensures .0, same-touch (v .before .before .before .pre .6), v .u16-at .ensures) (first-law (λ j. at-fault (now (a .m)) (a .used) (a .n) (cellIn (c .before .before .loop .at) slotSize j)) 256)
+    rw (c .judge-block-slots .ensures .0, same-touch (v .before .before .before .pre .table), v .u16-at .ensures) (first-law (λ j. at-fault (now (a .m)) (a .used) (a .n) (cellIn (c .before .before .loop .at) slotSize j)) 256)
 
 -- the first free slot of the block, where none is at fault
 free : (c : tie.After-judge-block-slots Inv-loop μ-loop) → 256 ≤ c .judge-block-slots .result .bad → let l = c .before .before in First (freeIn (now (l .before .before .before .before .before .args .m)) (l .loop .at)) 256 (c .judge-block-slots .result .free)
@@ -81,7 +81,7 @@ stands c = omega (arith, c .slot .ensures, c .before .new .ensures)
 fits-32 : tie.Need-cast-t14 Inv-loop μ-loop
 fits-32 c =
     let t = c .before .before .before .before .before in
-    omega (arith, c .slot .ensures, c .before .new .ensures, c .before .before .if1 .taken, inside t, t .before .before .before .before .before .before .pre .1)
+    omega (arith, c .slot .ensures, c .before .new .ensures, c .before .before .if1 .taken, inside t, t .before .before .before .before .before .before .pre .limit)
 
 returns : tie.Need-returns Inv-loop μ-loop
 unfolding slotsJudged
@@ -129,7 +129,7 @@ returns-2 c =
 few : (c : tie.After-u32-at Inv-loop μ-loop) → c .before .before .before .before .args .n ≤ c .before .before .before .before .args .used
 few c =
     let s = c .before .before .before .before in
-    pass-few (walked-pass (indexRule (now (s .args .m))) (now (s .args .m)) (s .args .used) (s .pre .4)) (omega arith)
+    pass-few (walked-pass (indexRule (now (s .args .m))) (now (s .args .m)) (s .args .used) (s .pre .index)) (omega arith)
 
 pub judge-slots-spec : {M : Type 1} → statement M
 judge-slots-spec =
@@ -144,13 +144,13 @@ judge-slots-spec =
     loop-holds
     judge-block-slots-requires
     (λ c κs. search needs)
-    (λ c κs. (omega (arith, c .new .ensures, inside (c .before .before .before .before), c .before .before .before .before .before .before .before .before .before .before .pre .1), c .before .if1 .taken))
+    (λ c κs. (omega (arith, c .new .ensures, inside (c .before .before .before .before), c .before .before .before .before .before .before .before .before .before .before .pre .limit), c .before .if1 .taken))
     fits-32
     returns
     (λ c. omega (arith, pass-few (c .before .before .before .before .before .loop .inv .0 .pass) (omega arith)))
     add-first-free
     (λ c κs. search needs)
-    (λ c κs. omega (arith, inside (c .before .before .before .before .before .before), c .before .before .before .before .before .before .before .before .before .before .before .before .pre .2))
+    (λ c κs. omega (arith, inside (c .before .before .before .before .before .before), c .before .before .before .before .before .before .before .before .before .before .before .before .pre .room))
     (λ c. search needs)
     (λ c. omega arith)
     (λ c. omega arith)

@@ -1,0 +1,27 @@
+-- `accept::examine_opened` meets its contract: the opening's refusal, or what the slots are judged to be. Assumes nothing.
+use mathlib.Core.Path.{sym, ap, subst, _∙_}
+use denote.Ref.{now}
+use borrow.Author.Needs.{needs}
+use Rattle.accept.specs.declared.Opened.{Opened}
+use Rattle.accept.specs.Slots.{withFree}
+use Rattle.accept.specs.Opens.{afterOpened, Opens}
+use Rattle.accept.proofs.examine_opened.Statement.{statement}
+use Rattle.accept.proofs.examine_opened.Tie as tie
+
+judge-slots-requires : tie.Need-judge-slots-requires
+judge-slots-requires c κs =
+    let s = c .before .before .before .before .before in
+    subst (Opens (now (s .args .m)) (s .args .used) (now (s .args .index))) (c .before .o2 .given .1) (s .pre)
+
+returns : tie.Need-returns
+returns c =
+    let a = c .before .before .before .before .before .args in
+    sym (ap (λ (x : Opened). withFree (now (a .m)) (afterOpened (now (a .m)) (a .used) x)) (c .before .o .given .1))
+
+returns-2 : tie.Need-returns-2
+returns-2 c =
+    let a = c .before .before .before .before .before .before .args in
+    c .judge-slots .ensures ∙ sym (ap (λ (x : Opened). withFree (now (a .m)) (afterOpened (now (a .m)) (a .used) x)) (c .before .before .o2 .given .1))
+
+pub examine-opened-spec : {M : Type 1} → statement M
+examine-opened-spec = tie.close (tie.spec (λ c. search needs) (λ c. search needs) judge-slots-requires returns returns-2)

@@ -1,0 +1,251 @@
+-- The look at the slots in one pass, a bit for each. Assumes nothing.
+--     unwanted-free, unwanted-erased, wanted-live     whether a slot is listed, by its fields as they are tested
+--     Looks live before bits count j                  of a word's slots j were looked at: their bits stand highest in the word, and those that are live were counted
+--     Rows m w bad block k ws₀ ws count q             of the words of block k q were looked at: no slot was at fault, their bits stand in the words, and
+--                                                     those that are live were counted
+--     Marking m w used n ws₀ ws at count k            the same of the n blocks: k were looked at, and the next stands at `at`
+use Prim.Native.Nat.{ℕ, suc, _+_, _-_, _*_, _/_, _≤_, _<_}
+use mathlib.Core.Bool.{Bool, true, false}
+use mathlib.Core.Path.{_≡_, refl, sym, ap, _∙_}
+use mathlib.Core.List.{List}
+use native.Mathlib.Nat.{add-zero, zero-add}
+use native.Mathlib.Decide.{ℕ-discrete}
+use native.Mathlib.Omega.{arith}
+use lib.ListN.{length, set, length-append, length-set}
+use lib.Seq.{getD-set-same, getD-set-other}
+use mir.Val.{boolByte}
+use borrow.Author.Tests.{eq-eqb, ne-eqb}
+use Rattle.numbers.specs.Bytes.{u16At, u32At}
+use Rattle.numbers.specs.Below.{first, sel}
+use Rattle.numbers.proofs.Below.{First, first-is, first-none, sel-yes, sel-no, sel-length}
+use Rattle.bits.specs.Bits.{bit, double, bitsFrom, onesIn, wordBits}
+use Rattle.bits.proofs.Bits.{double-turn, bits-more, bits-word, bits-moved, sel-moved, ones-words, word-high, word-most}
+use Rattle.records.specs.declared.Slot.{Slot}
+use Rattle.records.specs.declared.Window.{Window}
+use Rattle.records.specs.declared.State.the-variants.{Live}
+use Rattle.records.specs.Slots.{slotOf, stateOf}
+use Rattle.records.specs.Windows.{meetsWindow}
+use Rattle.records.specs.Sizes.{headerSize, indexBlockSize, mostBlocks, slotSize}
+use Rattle.records.specs.Headers.{indexHead}
+use Rattle.chain.specs.Chains.{place}
+use Rattle.chain.specs.Cells.{cellIn}
+use Rattle.chain.proofs.Chains.{Pass, walked-pass}
+use Rattle.accept.specs.declared.Judged.{Judged}
+use Rattle.accept.specs.declared.Judged.the-variants.{Good, Bad}
+use Rattle.accept.specs.declared.Verdict.the-variants.{Accepted}
+use Rattle.accept.specs.declared.Opened.the-variants as opened
+use Rattle.accept.specs.Opens.{openedOf, afterOpened, Open}
+use Rattle.accept.specs.Rules.{indexRule, touches}
+use Rattle.accept.specs.Judging.{versionOf, badSlot}
+use Rattle.accept.specs.Verdicts.{unless, slotsJudged, verdict}
+use Rattle.accept.proofs.Looking.{Along, cells-good, cells-bad, along-start, along-inside, along-cell, along-on, along-bad, along-good}
+use Rattle.accept.proofs.Rules.{most-blocks}
+use Rattle.accept.proofs.Opens.{verdict-opened}
+use Rattle.accept.proofs.Firsts.{first-same, first-after}
+use Rattle.accept.proofs.Slots.{no-len, has-len}
+use Rattle.find.specs.Searches.{wantedAt, SlotsOf, liveIn, slotsFor, found}
+use Rattle.find.specs.Looks.{blockWords, slotFrom, liveFrom, Marked}
+
+-- what a slot adds to the count
+pub one-at-most : (hit : Bool) → boolByte hit ≤ 1
+one-at-most true = omega arith
+one-at-most false = omega arith
+
+-- of the slots of n blocks at most all pass
+pub slots-low : (test : ℕ → Bool) (n : ℕ) → length (slotsFor test n) ≤ 256 * n
+unfolding slotsFor
+slots-low test n = sel-length test (256 * n)
+
+-- ---- one slot
+
+module _ (m : List ℕ) (w : Window) (p : ℕ) {t : Slot} (e : t ≡ slotOf m p) where
+  pub unwanted-free : t .len ≡ 0 → wantedAt m Live w p ≡ false
+  unfolding wantedAt slotOf stateOf
+  unwanted-free z = rw (no-len m p e z)
+
+  pub unwanted-erased : (t .len ≡ 0 → ⊥) → t .sym ≡ 0 → wantedAt m Live w p ≡ false
+  unfolding wantedAt slotOf stateOf
+  unwanted-erased z y = rw (has-len m p e z, eq-eqb (u16At m (p + 22)) 0 (sym (ap (λ (x : Slot). x .sym) e) ∙ y))
+
+  pub wanted-live : (t .len ≡ 0 → ⊥) → (t .sym ≡ 0 → ⊥) → wantedAt m Live w p ≡ meetsWindow t w
+  unfolding wantedAt slotOf stateOf
+  wanted-live z y = rw (has-len m p e z, ne-eqb (u16At m (p + 22)) 0 (λ g. y (ap (λ (x : Slot). x .sym) e ∙ g)), e)
+
+-- ---- a word's slots
+
+pub record Looks (live : ℕ → Bool) (before bits count j : ℕ) : Type 0 where
+  pub made : bits ≡ double (wordBits - j) (bitsFrom live 0 j)
+  pub counted : count ≡ before + length (sel live j)
+
+pub looks-start : (live : ℕ → Bool) (before : ℕ) → Looks live before 0 before 0
+unfolding bitsFrom sel double
+looks-start live before = record { made = refl; counted = sym (add-zero before) }
+
+module _ {live : ℕ → Bool} {before bits count j : ℕ} (k : Looks live before bits count j) where
+  pub looks-low : j ≤ wordBits → bits < 18446744073709551616
+  looks-low h =
+      let e : wordBits - j + j ≡ wordBits = omega arith in
+      rw (k .made) (rw (e, word-most) at (bits-word live 0 j (wordBits - j)))
+
+  pub looks-few : count ≤ before + j
+  looks-few = omega (arith, k .counted, sel-length live j)
+
+  -- a turn: the word is halved, and the slot's bit put in as the highest
+  made : j < wordBits → {b : Bool} → live j ≡ b → bits / 2 + bit b * 9223372036854775808 ≡ double (wordBits - (j + 1)) (bitsFrom live 0 (j + 1))
+  made h {b} e =
+      let i = wordBits - (j + 1) in
+      let n : wordBits - j ≡ suc i = omega arith in
+      let o : i + j ≡ wordBits - 1 = omega arith in
+      rw (bits-more live 0 j, zero-add j, e, k .made, n) (rw (o, word-high) at (double-turn i j (bitsFrom live 0 j) b))
+
+  pub looks-on : j < wordBits → (b : Bool) → live j ≡ b → Looks live before (bits / 2 + boolByte b * 9223372036854775808) (count + boolByte b) (j + 1)
+  looks-on h true e = record { made = made h e; counted = rw (sel-yes live j e, length-append) (omega (arith, k .counted)) }
+  looks-on h false e = record { made = made h e; counted = rw (sel-no live j e) (omega (arith, k .counted)) }
+
+  pub looks-past : j < wordBits → live j ≡ false → Looks live before (bits / 2) count (j + 1)
+  looks-past h e = let r = looks-on h false e in record { made = omega (arith, r .made); counted = rw (add-zero count) at (r .counted) }
+
+  pub looks-done : wordBits ≤ j → j ≤ wordBits → (bits ≡ bitsFrom live 0 wordBits) × (count ≡ before + length (sel live wordBits))
+  unfolding double
+  looks-done h l =
+      let e : j ≡ wordBits = omega arith in
+      (k .made ∙ ap (λ (i : ℕ). double (wordBits - i) (bitsFrom live 0 i)) e, k .counted ∙ ap (λ (i : ℕ). before + length (sel live i)) e)
+
+-- ---- the words of a block
+
+pub record Rows (m : List ℕ) (w : Window) (bad : ℕ → Bool) (block k : ℕ) (ws₀ ws : List ℕ) (count q : ℕ) : Type 0 where
+  pub upto : q ≤ blockWords
+  pub kept : length ws ≡ length ws₀
+  pub none : (j : ℕ) → j < wordBits * q → bad (cellIn block slotSize j) ≡ false
+  pub counted : count ≡ length (sel (liveIn m w) (256 * k + wordBits * q))
+  pub marked : Marked m w ws (blockWords * k + q)
+
+pub rows-start : {m : List ℕ} {w : Window} {bad : ℕ → Bool} {block k : ℕ} {ws : List ℕ} {count : ℕ} → count ≡ length (sel (liveIn m w) (256 * k)) → Marked m w ws (blockWords * k) → Rows m w bad block k ws ws count 0
+rows-start {k} e h =
+    record { upto = omega arith; kept = refl; none = λ j l. absurd (omega arith); counted = rw (add-zero (256 * k)) e; marked = λ i l. h i (omega arith) }
+
+-- a word more
+marked-more : (m : List ℕ) (w : Window) (ws : List ℕ) (n : ℕ) {x : ℕ} → Marked m w ws n → n < length ws → x ≡ bitsFrom (liveIn m w) (wordBits * n) wordBits → Marked m w (set ws n x) (n + 1)
+marked-more m w ws n {x} h l e i g =
+    elim (ℕ-discrete i n) [
+      | yes q ↦ rw q (getD-set-same ws n x 0 l ∙ e)
+      | no q ↦ getD-set-other ws n i x 0 q ∙ h i (omega arith)
+    ]
+
+module _ {m : List ℕ} {w : Window} {bad : ℕ → Bool} {block k : ℕ} {ws₀ ws : List ℕ} {count q : ℕ} (r : Rows m w bad block k ws₀ ws count q) where
+  module _ (h : q < blockWords) {at : ℕ} (e : at ≡ block + 4 + wordBits * slotSize * q) where
+    -- the word's slots are the block's
+    stands : (j : ℕ) → j < wordBits → slotFrom at j ≡ cellIn block slotSize (wordBits * q + j)
+    unfolding slotFrom cellIn
+    stands j l = omega arith
+
+    ahead : {f : ℕ} → First (λ j. bad (slotFrom at j)) wordBits f → First (λ j. bad (cellIn block slotSize j)) (wordBits * q + wordBits) (wordBits * q + f)
+    ahead g = first-after {p = λ j. bad (cellIn block slotSize j)} (r .none) (first-same (λ j l. ap bad (sym (stands j l))) g)
+
+    -- the first at fault in the word is the first in the block
+    pub rows-bad : {f : ℕ} → First (λ j. bad (slotFrom at j)) wordBits f → f < wordBits → wordBits * q + f ≡ first (λ j. bad (cellIn block slotSize j)) 256
+    rows-bad {f} g l =
+        let a = ahead g in
+        sym (first-is (λ j. bad (cellIn block slotSize j)) 256 (wordBits * q + f) (omega arith) (a .before) (λ u. a .here (omega arith)))
+
+    -- and, by their numbers, the map's
+    module _ (slots : SlotsOf m block (256 * k)) where
+      live : (j : ℕ) → j < wordBits → liveFrom m w at j ≡ liveIn m w (256 * k + wordBits * q + j)
+      live j l =
+          let n : 256 * k + (wordBits * q + j) ≡ 256 * k + wordBits * q + j = omega arith in
+          ap (wantedAt m Live w) (stands j l ∙ sym (rw n at (slots (wordBits * q + j) (omega arith))))
+
+      -- none of the word's is at fault
+      pub rows-on : {f x c : ℕ} → First (λ j. bad (slotFrom at j)) wordBits f → wordBits ≤ f → blockWords * k + blockWords ≤ length ws₀ → x ≡ bitsFrom (liveFrom m w at) 0 wordBits → c ≡ count + length (sel (liveFrom m w at) wordBits) → Rows m w bad block k ws₀ (set ws (blockWords * k + q) x) c (q + 1)
+      rows-on {x} g l room b f =
+          let a = ahead g in
+          let n : 256 * k + wordBits * q ≡ wordBits * (blockWords * k + q) = omega arith in
+          let u : 256 * k + wordBits * q + wordBits ≡ 256 * k + wordBits * (q + 1) = omega arith in
+          let v : blockWords * k + q + 1 ≡ blockWords * k + (q + 1) = omega arith in
+          let word : x ≡ bitsFrom (liveIn m w) (wordBits * (blockWords * k + q)) wordBits = b ∙ bits-moved (liveFrom m w at) (liveIn m w) (256 * k + wordBits * q) wordBits live ∙ ap (λ (i : ℕ). bitsFrom (liveIn m w) i wordBits) n in
+          let more = sel-moved (liveFrom m w at) (liveIn m w) (256 * k + wordBits * q) wordBits live in
+          record {
+            upto = omega arith;
+            kept = simp length-set (r .kept);
+            none = λ j i. a .before j (omega arith);
+            counted = f ∙ ap (λ (i : ℕ). i + length (sel (liveFrom m w at) wordBits)) (r .counted) ∙ more ∙ ap (λ (i : ℕ). length (sel (liveIn m w) i)) u;
+            marked = λ i o. marked-more m w ws (blockWords * k + q) (r .marked) (omega (arith, r .kept)) word i (omega arith);
+          }
+
+  pub rows-few : count ≤ 256 * k + wordBits * q
+  rows-few = omega (arith, r .counted, sel-length (liveIn m w) (256 * k + wordBits * q))
+
+  pub rows-none : blockWords ≤ q → 256 ≡ first (λ j. bad (cellIn block slotSize j)) 256
+  rows-none l = sym (first-none (λ j. bad (cellIn block slotSize j)) 256 (λ j i. r .none j (omega arith)))
+
+  pub rows-done : blockWords ≤ q → (count ≡ length (sel (liveIn m w) (256 * k + 256))) × Marked m w ws (blockWords * k + blockWords)
+  rows-done l =
+      let e : 256 * k + wordBits * q ≡ 256 * k + 256 = omega (arith, r .upto) in
+      (r .counted ∙ ap (λ (i : ℕ). length (sel (liveIn m w) i)) e, λ i g. r .marked i (omega (arith, r .upto)))
+
+-- ---- the blocks
+
+-- whether the slot at a place is at fault, by the chain
+abbrev pub atFault : List ℕ → ℕ → ℕ → ℕ → Bool
+atFault m used n p = badSlot (touches m n) m used (versionOf m) p
+
+pub record Marking (m : List ℕ) (w : Window) (used n : ℕ) (ws₀ ws : List ℕ) (at count k : ℕ) : Type 0 where
+  pub along : Along (indexRule m) m used slotSize n (atFault m used n) (place indexHead m k) k
+  pub here : at ≡ u32At m (place indexHead m k)
+  pub counted : count ≡ length (sel (liveIn m w) (256 * k))
+  pub marked : Marked m w ws (blockWords * k)
+  pub kept : length ws ≡ length ws₀
+
+pub mark-start : {m : List ℕ} {w : Window} {used n : ℕ} {ws : List ℕ} {at : ℕ} → Pass (indexRule m) m used n → headerSize ≤ used → at ≡ u32At m indexHead → Marking m w used n ws ws at 0 0
+unfolding place sel
+mark-start h l e = record { along = along-start h (omega arith); here = e; counted = refl; marked = λ i g. absurd (omega arith); kept = refl }
+
+module _ {m : List ℕ} {w : Window} {used n : ℕ} {ws₀ ws : List ℕ} {at count k : ℕ} (r : Marking m w used n ws₀ ws at count k) where
+  module _ (l : k < n) where
+    pub mark-inside : at + indexBlockSize ≤ used
+    mark-inside = along-inside (r .along) l (r .here)
+
+    pub mark-slots : SlotsOf m at (256 * k)
+    mark-slots = along-cell (r .along) l (r .here)
+
+    -- a slot of the block is at fault
+    pub mark-bad : {f : ℕ} → First (λ j. atFault m used n (cellIn at slotSize j)) 256 f → f < 256 → slotsJudged m used n ≡ Bad 7 (cellIn at slotSize f)
+    unfolding slotsJudged
+    mark-bad g h = sym (along-bad (r .along) l (r .here) 7 (cells-bad 7 (λ j. atFault m used n (cellIn at slotSize j)) (cellIn at slotSize) 256 g h))
+
+    -- none is
+    pub mark-on : {f : ℕ} → First (λ j. atFault m used n (cellIn at slotSize j)) 256 f → 256 ≤ f → {ws′ : List ℕ} {at′ count′ : ℕ} → at′ ≡ u32At m at → count′ ≡ length (sel (liveIn m w) (256 * k + 256)) → Marked m w ws′ (blockWords * k + blockWords) → length ws′ ≡ length ws → Marking m w used n ws₀ ws′ at′ count′ (k + 1)
+    mark-on g h e f o q =
+        let none = cells-good 7 (λ j. atFault m used n (cellIn at slotSize j)) (cellIn at slotSize) 256 (λ j i. g .before j (omega arith)) in
+        let a = along-on (r .along) l (r .here) (omega arith) 7 none in
+        let u : 256 * k + 256 ≡ 256 * (k + 1) = omega arith in
+        record {
+          along = rw (← a .link) a;
+          here = e ∙ ap (u32At m) (a .link);
+          counted = f ∙ ap (λ (i : ℕ). length (sel (liveIn m w) i)) u;
+          marked = λ i g. o i (omega arith);
+          kept = q ∙ r .kept;
+        }
+
+  pub mark-done : n ≤ k → (slotsJudged m used n ≡ Good) × (count ≡ length (found m n w)) × Marked m w ws (blockWords * n)
+  unfolding slotsJudged slotsFor
+  mark-done h =
+      let e : k ≡ n = omega (arith, r .along .upto) in
+      (sym (along-good (r .along) 7 h), r .counted ∙ ap (λ (i : ℕ). length (sel (liveIn m w) (256 * i))) e, λ i g. r .marked i (omega arith))
+
+-- ---- the whole
+
+-- the bits that are 1 are the slots found
+pub marked-found : (m : List ℕ) (w : Window) (ws : List ℕ) (n : ℕ) → Marked m w ws (blockWords * n) → onesIn wordBits ws (blockWords * n) ≡ found m n w
+unfolding slotsFor
+marked-found m w ws n h =
+    let e : wordBits * (blockWords * n) ≡ 256 * n = omega arith in
+    ones-words wordBits (liveIn m w) ws (blockWords * n) h ∙ ap (sel (liveIn m w)) e
+
+-- a map that is opened has few blocks
+pub open-few : {m : List ℕ} {used n : ℕ} {t : List ℕ} → Open m used n t → n ≤ mostBlocks
+open-few {m} {used} o = most-blocks (walked-pass (indexRule m) m used (o .index)) (o .limit)
+
+-- and 7 is the check's answer for it
+pub open-judged : (m : List ℕ) (used n : ℕ) → openedOf m used ≡ opened.Blocks n → {j : Judged} → slotsJudged m used n ≡ j → verdict m used ≡ unless j (Accepted n)
+open-judged m used n o e = verdict-opened m used ∙ ap (afterOpened m used) o ∙ ap (λ (i : Judged). unless i (Accepted n)) e

@@ -1,0 +1,28 @@
+-- The look at the slots in one pass, a word's bits at a time: each slot is judged, and has a bit that says whether the search lists it. For the contracts
+-- within the search.
+--     blockWords          the bits of an index block's 256 slots are so many words
+--     slotFrom p j        where slot j of a run of slots stands that starts at place p
+--     liveFrom m w p j    whether that slot is live and its rectangle meets the window
+--     Marked m w ws n     each of the first n words has the bits of its slots, in slot order
+use Prim.Native.Nat.{ℕ, _+_, _*_, _<_}
+use mathlib.Core.Bool.{Bool}
+use mathlib.Core.Path.{_≡_}
+use mathlib.Core.List.{List}
+use lib.ListN.{getD}
+use Rattle.bits.specs.Bits.{bitsFrom, wordBits}
+use Rattle.records.specs.Sizes.{slotSize}
+use Rattle.records.specs.declared.Window.{Window}
+use Rattle.records.specs.declared.State.the-variants.{Live}
+use Rattle.find.specs.Searches.{wantedAt, liveIn}
+
+abbrev pub blockWords : ℕ
+blockWords = 4
+
+unfoldable pub slotFrom : ℕ → ℕ → ℕ
+slotFrom p j = p + slotSize * j
+
+abbrev pub liveFrom : List ℕ → Window → ℕ → ℕ → Bool
+liveFrom m w p j = wantedAt m Live w (slotFrom p j)
+
+abbrev pub Marked : List ℕ → Window → List ℕ → ℕ → Type 0
+Marked m w ws n = (i : ℕ) → i < n → getD ws i 0 ≡ bitsFrom (liveIn m w) (wordBits * i) wordBits
