@@ -20,7 +20,7 @@ use Rattle.accept.specs.Rules.{indexRule, symbolRule, touches, slotAt, e
 use Rattle.accept.specs.Judging.{versionOf, lengthGood, partGood, badSlot, badEntry}
 use Rattle.accept.proofs.Looking.{cells-good, cells-tell}
 use Rattle.accept.proofs.Verdicts.{length-tells, unless-tells, after-tells}
-use Rattle.accept.specs.Verdicts.{firstOf, linkJudged, fieldsJudged, headerJudged, entriesJudged, symbolsJudged, slotsJudged, afterIndex, verdict}
+use Rattle.accept.specs.Verdicts.{firstOf, linkJudged, fieldsJudged, headerJudged, entriesJudged, verdict, afterIndexOf, entriesJudgedOf, slotsJudgedOf, symbolsJudgedOf}
 
 pub record Holds (m : List ℕ) (used n : ℕ) : Type 0 where
   pub low : 48 ≤ used
@@ -72,7 +72,7 @@ header-tells m used e =
     (a .0, b .0, c .0, d .0, f .0)
 
 pub accepted-tells : (m : List ℕ) (used n : ℕ) → verdict m used ≡ Accepted n → Holds m used n
-unfolding verdict symbolsJudged entriesJudged slotsJudged
+unfolding verdict symbolsJudgedOf entriesJudgedOf slotsJudgedOf
 accepted-tells m used n e =
     let a = unless-tells (headerJudged m used) e in
     let h = header-tells m used (a .0) in
@@ -99,7 +99,7 @@ accepted-tells m used n e =
 -- ---- and back
 
 pub accepted-is : {m : List ℕ} {used n : ℕ} → Holds m used n → verdict m used ≡ Accepted n
-unfolding verdict headerJudged fieldsJudged headerOf lengthGood afterIndex symbolsJudged entriesJudged slotsJudged
+unfolding verdict headerJudged fieldsJudged headerOf lengthGood afterIndexOf symbolsJudgedOf entriesJudgedOf slotsJudgedOf
 accepted-is {m} {used} {n} h =
     rw (
       le-leb 48 used (h .low),

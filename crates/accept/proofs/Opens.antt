@@ -12,7 +12,7 @@ use Rattle.accept.specs.declared.Opened.the-variants as opened
 use Rattle.accept.specs.declared.Verdict.the-variants.{Accepted}
 use Rattle.accept.specs.Rules.{indexRule}
 use Rattle.accept.specs.Opens.{orOpened, openedAfter, openedOf, afterOpened, Open, Opens}
-use Rattle.accept.specs.Verdicts.{unless, headerJudged, symbolsJudged, slotsJudged, afterIndex, verdict}
+use Rattle.accept.specs.Verdicts.{unless, headerJudged, symbolsJudged, slotsJudged, afterIndex, verdict, afterIndexOf}
 use Rattle.accept.proofs.Verdicts.{unless-tells, refused}
 
 module _ (m : List ℕ) (used : ℕ) where
@@ -21,7 +21,7 @@ module _ (m : List ℕ) (used : ℕ) where
   or-after (Bad k p) o = refl
 
   pub after-opened : (w : Walk) → afterIndex m used w ≡ afterOpened m used (openedAfter m used w)
-  unfolding afterIndex openedAfter
+  unfolding afterIndexOf openedAfter
   after-opened (Blocks n) = or-after (symbolsJudged m used n) (opened.Blocks n)
   after-opened (Fault p n) = refl
 

@@ -23,7 +23,7 @@ use Rattle.accept.specs.Rules.{indexRule, symbolRule, touches, slotAt, e
 use Rattle.accept.specs.Judging.{versionOf, lengthGood, badSlot, badEntry}
 use Rattle.accept.proofs.Looking.{cells-good}
 use Rattle.accept.proofs.Telling.{and-true}
-use Rattle.accept.specs.Verdicts.{unless, firstOf, linkJudged, fieldsJudged, headerJudged, entriesJudged, symbolsJudged, slotsJudged, afterIndex}
+use Rattle.accept.specs.Verdicts.{unless, firstOf, linkJudged, fieldsJudged, headerJudged, entriesJudged, symbolsJudged, slotsJudged, afterIndex, afterIndexOf, entriesJudgedOf, slotsJudgedOf, symbolsJudgedOf}
 
 -- ---- 1: the length
 
@@ -55,7 +55,7 @@ taken-of r m used (Fault p n) e = sym (fault-tells r m used e .0)
 
 -- the walk answered w, and the entries of its blocks were judged to be j
 pub symbols-is : (m : List ℕ) (used n : ℕ) {w : Walk} {j : Judged} → walked (symbolRule m n) m used ≡ w → j ≡ entriesJudged m used n (blocksIn w) → symbolsJudged m used n ≡ firstOf j (linkJudged w)
-unfolding symbolsJudged
+unfolding symbolsJudgedOf
 symbols-is m used n {w} e f = rw (e, ← taken-of (symbolRule m n) m used w e, ← f)
 
 pub first-good : (j : Judged) → firstOf j Good ≡ j
@@ -71,12 +71,12 @@ no-blocks r m used l e =
     walked-blocks r m used (taken-is r m used l (pass-none r m used) (stops-zero r m used 0 b)) b
 
 pub no-symbols : (m : List ℕ) (used n : ℕ) → u32At m symbolHead ≡ 0 → symbolsJudged m used n ≡ Good
-unfolding entriesJudged
+unfolding entriesJudgedOf
 no-symbols m used n e =
     symbols-is m used n (no-blocks (symbolRule m n) m used (omega arith) e) (sym (cells-good 6 (λ i. badEntry (touches m n) m used (entryAt m i)) (entryAt m) (256 * 0) (λ i l. absurd (omega arith))))
 
 pub no-index : (m : List ℕ) (used : ℕ) → u32At m indexHead ≡ 0 → u32At m symbolHead ≡ 0 → afterIndex m used (walked (indexRule m) m used) ≡ Accepted 0
-unfolding afterIndex slotsJudged
+unfolding afterIndexOf slotsJudgedOf
 no-index m used e f =
     rw (no-blocks (indexRule m) m used (omega arith) e, no-symbols m used 0 f, cells-good 7 (λ s. badSlot (touches m 0) m used (versionOf m) (slotAt m s)) (slotAt m) (256 * 0) (λ i l. absurd (omega arith)))
 
@@ -90,7 +90,7 @@ unless-tells Good e = (refl, e)
 unless-tells (Bad k p) e = absurd (refused e)
 
 pub after-tells : (m : List ℕ) (used : ℕ) (w : Walk) {n : ℕ} → afterIndex m used w ≡ Accepted n → (w ≡ Blocks n) × (symbolsJudged m used n ≡ Good) × (slotsJudged m used n ≡ Good)
-unfolding afterIndex
+unfolding afterIndexOf
 after-tells m used (Blocks k) {n} e =
     let f = unless-tells (symbolsJudged m used k) e in
     let g = unless-tells (slotsJudged m used k) (f .1) in

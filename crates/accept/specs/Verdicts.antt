@@ -10,6 +10,7 @@
 --                               its entries, then its link
 --     slotsJudged m used n      7: the live slot at fault of lowest number
 --     afterIndex, verdict       5: the link of an index block, at the place where the link is stored; then 6, then 7
+--     entriesJudgedOf f, symbolsJudgedOf f, slotsJudgedOf f, afterIndexOf f     the same of a family of maps (Rules); those without a family are of 6, 7 and 8
 use Prim.Native.Nat.{ℕ, _*_}
 use mathlib.Core.Bool.{Bool, cond}
 use mathlib.Core.List.{List}
@@ -24,8 +25,8 @@ use Rattle.accept.specs.declared.Verdict.{Verdict}
 use Rattle.accept.specs.declared.Verdict.the-variants.{Accepted, Refused}
 use Rattle.accept.specs.declared.Judged.{Judged}
 use Rattle.accept.specs.declared.Judged.the-variants.{Good, Bad}
-use Rattle.accept.specs.Rules.{indexRule, symbolRule, touches, slotAt, entryAt}
-use Rattle.accept.specs.Judging.{versionOf, lengthGood, partGood, badSlot, badEntry}
+use Rattle.accept.specs.Rules.{Family, narrow, indexRule, symbolRuleOf, touchesOf, slotAtOf, entryAt}
+use Rattle.accept.specs.Judging.{lengthGood, partGood}
 
 abbrev pub numberOf : Verdict → ℕ
 numberOf (Accepted n) = 0
@@ -61,19 +62,31 @@ abbrev pub firstOf : Judged → Judged → Judged
 firstOf Good j = j
 firstOf (Bad n p) j = Bad n p
 
-unfoldable pub entriesJudged : List ℕ → ℕ → ℕ → ℕ → Judged
-entriesJudged m used n k = cellsJudged 6 (λ e. badEntry (touches m n) m used (entryAt m e)) (entryAt m) (256 * k)
+unfoldable pub entriesJudgedOf : Family → List ℕ → ℕ → ℕ → ℕ → Judged
+entriesJudgedOf f m used n k = cellsJudged 6 (λ e. f .entryAtFault (touchesOf f m n) m used (entryAt m e)) (entryAt m) (256 * k)
 
-unfoldable pub symbolsJudged : List ℕ → ℕ → ℕ → Judged
-symbolsJudged m used n =
-    firstOf (entriesJudged m used n (taken (symbolRule m n) m used)) (linkJudged (walked (symbolRule m n) m used))
+unfoldable pub symbolsJudgedOf : Family → List ℕ → ℕ → ℕ → Judged
+symbolsJudgedOf f m used n =
+    firstOf (entriesJudgedOf f m used n (taken (symbolRuleOf f m n) m used)) (linkJudged (walked (symbolRuleOf f m n) m used))
 
-unfoldable pub slotsJudged : List ℕ → ℕ → ℕ → Judged
-slotsJudged m used n = cellsJudged 7 (λ s. badSlot (touches m n) m used (versionOf m) (slotAt m s)) (slotAt m) (256 * n)
+unfoldable pub slotsJudgedOf : Family → List ℕ → ℕ → ℕ → Judged
+slotsJudgedOf f m used n = cellsJudged 7 (λ s. f .slotAtFault (touchesOf f m n) m used (slotAtOf f m s)) (slotAtOf f m) (256 * n)
 
-unfoldable pub afterIndex : List ℕ → ℕ → Walk → Verdict
-afterIndex m used (Blocks n) = unless (symbolsJudged m used n) (unless (slotsJudged m used n) (Accepted n))
-afterIndex m used (Fault p n) = Refused 5 p
+unfoldable pub afterIndexOf : Family → List ℕ → ℕ → Walk → Verdict
+afterIndexOf f m used (Blocks n) = unless (symbolsJudgedOf f m used n) (unless (slotsJudgedOf f m used n) (Accepted n))
+afterIndexOf f m used (Fault p n) = Refused 5 p
+
+abbrev pub entriesJudged : List ℕ → ℕ → ℕ → ℕ → Judged
+entriesJudged m used n k = entriesJudgedOf narrow m used n k
+
+abbrev pub symbolsJudged : List ℕ → ℕ → ℕ → Judged
+symbolsJudged m used n = symbolsJudgedOf narrow m used n
+
+abbrev pub slotsJudged : List ℕ → ℕ → ℕ → Judged
+slotsJudged m used n = slotsJudgedOf narrow m used n
+
+abbrev pub afterIndex : List ℕ → ℕ → Walk → Verdict
+afterIndex m used w = afterIndexOf narrow m used w
 
 unfoldable pub verdict : List ℕ → ℕ → Verdict
 verdict m used = unless (headerJudged m used) (afterIndex m used (walked (indexRule m) m used))

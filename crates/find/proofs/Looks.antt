@@ -37,7 +37,7 @@ use Rattle.accept.specs.declared.Opened.the-variants as opened
 use Rattle.accept.specs.Opens.{openedOf, afterOpened, Open}
 use Rattle.accept.specs.Rules.{indexRule, touches}
 use Rattle.accept.specs.Judging.{versionOf, badSlot}
-use Rattle.accept.specs.Verdicts.{unless, slotsJudged, verdict}
+use Rattle.accept.specs.Verdicts.{unless, slotsJudged, verdict, slotsJudgedOf}
 use Rattle.accept.proofs.Looking.{Along, cells-good, cells-bad, along-start, along-inside, along-cell, along-on, along-bad, along-good}
 use Rattle.accept.proofs.Rules.{most-blocks}
 use Rattle.accept.proofs.Opens.{verdict-opened}
@@ -210,7 +210,7 @@ module _ {m : List ℕ} {w : Window} {used n : ℕ} {ws₀ ws : List ℕ} {at co
 
     -- a slot of the block is at fault
     pub mark-bad : {f : ℕ} → First (λ j. atFault m used n (cellIn at slotSize j)) 256 f → f < 256 → slotsJudged m used n ≡ Bad 7 (cellIn at slotSize f)
-    unfolding slotsJudged
+    unfolding slotsJudgedOf
     mark-bad g h = sym (along-bad (r .along) l (r .here) 7 (cells-bad 7 (λ j. atFault m used n (cellIn at slotSize j)) (cellIn at slotSize) 256 g h))
 
     -- none is
@@ -228,7 +228,7 @@ module _ {m : List ℕ} {w : Window} {used n : ℕ} {ws₀ ws : List ℕ} {at co
         }
 
   pub mark-done : n ≤ k → (slotsJudged m used n ≡ Good) × (count ≡ length (found m n w)) × Marked m w ws (blockWords * n)
-  unfolding slotsJudged slotsFor
+  unfolding slotsJudgedOf slotsFor
   mark-done h =
       let e : k ≡ n = omega (arith, r .along .upto) in
       (sym (along-good (r .along) 7 h), r .counted ∙ ap (λ (i : ℕ). length (sel (liveIn m w) (256 * i))) e, λ i g. r .marked i (omega arith))

@@ -23,7 +23,7 @@ use Rattle.records.specs.Windows.{meetsWindow}
 use Rattle.chain.specs.Chains.{place, block, stops, taken, walked}
 use Rattle.accept.specs.declared.Verdict.the-variants.{Accepted}
 use Rattle.accept.specs.Judging.{versionOf, lengthGood, partGood}
-use Rattle.accept.specs.Verdicts.{cellsJudged, fieldsJudged, headerJudged, entriesJudged, symbolsJudged, slotsJudged, afterIndex, verdict}
+use Rattle.accept.specs.Verdicts.{cellsJudged, fieldsJudged, headerJudged, verdict, afterIndexOf, entriesJudgedOf, slotsJudgedOf, symbolsJudgedOf}
 use Rattle.accept.proofs.Accepting.{accepted-tells, accepted-is}
 use Rattle.accept.proofs.Frame.{version-same}
 use Rattle.journal.specs.Journals.{recordIn, inUse, badRecord, wellFormed, holder, isHeld, isFull, appended}
@@ -39,12 +39,12 @@ use Rattle.promise.proofs.Steps.{add-done}
 use Rattle.promise.proofs.Moves.{Moved, moved-use, moved-here, added-grown, added-moved, blocksAfter}
 
 accepted : verdict empty7 48 ≡ Accepted 0
-unfolding verdict headerJudged fieldsJudged lengthGood headerOf pairGood partGood leAt afterIndex symbolsJudged entriesJudged slotsJudged cellsJudged walked taken first any stops block place
+unfolding verdict headerJudged fieldsJudged lengthGood headerOf pairGood partGood leAt afterIndexOf symbolsJudgedOf entriesJudgedOf slotsJudgedOf cellsJudged walked taken first any stops block place
 accepted = refl
 
 -- the same in any buffer
 accepted-in : (rest : List ℕ) → verdict (empty7 ++ rest) 48 ≡ Accepted 0
-unfolding verdict headerJudged fieldsJudged lengthGood headerOf pairGood partGood leAt afterIndex symbolsJudged entriesJudged slotsJudged cellsJudged walked taken first any stops block place
+unfolding verdict headerJudged fieldsJudged lengthGood headerOf pairGood partGood leAt afterIndexOf symbolsJudgedOf entriesJudgedOf slotsJudgedOf cellsJudged walked taken first any stops block place
 accepted-in rest = rw (le-leb 48 (length (empty7 ++ rest)) (omega arith))
 
 seven-in : (rest : List ℕ) → versionOf (empty7 ++ rest) ≡ 7

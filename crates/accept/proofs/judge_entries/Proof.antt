@@ -9,7 +9,7 @@ use Rattle.chain.specs.Cells.{cellIn}
 use Rattle.chain.proofs.Chains.{taken-pass}
 use Rattle.accept.specs.Rules.{symbolRule, touches}
 use Rattle.accept.specs.Judging.{badEntry}
-use Rattle.accept.specs.Verdicts.{cellsJudged, entriesJudged}
+use Rattle.accept.specs.Verdicts.{cellsJudged, entriesJudgedOf}
 use Rattle.accept.proofs.Judging.{same-touch}
 use Rattle.accept.proofs.Looking.{Along, along-start, along-inside, along-on, along-bad, along-good}
 use Rattle.accept.proofs.judge_entries.Statement.{statement}
@@ -40,7 +40,7 @@ told : (c : tie.After-judge-block-entries Inv-loop μ-loop) → let a = c .befor
 told c = rw (← same-touch (c .before .before .before .before .before .before .pre .5)) (c .judge-block-entries .ensures)
 
 returns : tie.Need-returns Inv-loop μ-loop
-unfolding entriesJudged
+unfolding entriesJudgedOf
 returns c =
     let k = c .before .before .before in
     let t = k .before .before in
@@ -53,7 +53,7 @@ loop-again c =
     along-on (t .before .loop .inv) (t .loop-test .taken) (k .before .u32-at .ensures) (omega arith) 6 (sym (told k) ∙ c .enum-told .given .1)
 
 returns-2 : tie.Need-returns-2 Inv-loop μ-loop
-unfolding entriesJudged
+unfolding entriesJudgedOf
 returns-2 c = along-good (c .before .loop .inv) 6 (c .loop-test .left)
 
 pub judge-entries-spec : {M : Type 1} → statement M

@@ -20,7 +20,7 @@ use Rattle.accept.specs.declared.Examined.the-variants.{Accepted}
 use Rattle.accept.specs.Rules.{indexRule, touches}
 use Rattle.accept.specs.Judging.{versionOf, badSlot}
 use Rattle.accept.specs.Slots.{slotIn, freeSlot, noLen, firstFree, freeIn}
-use Rattle.accept.specs.Verdicts.{slotsJudged}
+use Rattle.accept.specs.Verdicts.{slotsJudgedOf}
 use Rattle.accept.proofs.Judging.{same-touch}
 use Rattle.accept.proofs.Firsts.{first-same, firstOr, or-run, or-none, or-all}
 use Rattle.accept.proofs.Slots.{free-len}
@@ -84,7 +84,7 @@ fits-32 c =
     omega (arith, c .slot .ensures, c .before .new .ensures, c .before .before .if1 .taken, inside t, t .before .before .before .before .before .before .pre .limit)
 
 returns : tie.Need-returns Inv-loop μ-loop
-unfolding slotsJudged
+unfolding slotsJudgedOf
 returns c =
     let u = c .before .before .before .before in
     let l = u .before .before .loop in
@@ -117,7 +117,7 @@ loop-again c =
     )
 
 returns-2 : tie.Need-returns-2 Inv-loop μ-loop
-unfolding slotsJudged freeSlot
+unfolding slotsJudgedOf freeSlot
 returns-2 c =
     let a = c .before .before .before .before .before .before .args in
     let v = c .before .loop .inv in
