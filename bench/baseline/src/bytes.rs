@@ -10,6 +10,8 @@ pub const PAIR: usize = 8;
 pub const RECORD: usize = 16;
 /// Slots in an index block.
 pub const SLOTS: usize = 256;
+/// Slots in a row, of which a block has four: a bit for each makes a word.
+pub const ROW: usize = 64;
 /// Bytes of a block's link, which comes first.
 pub const LINK: usize = 4;
 
@@ -102,17 +104,21 @@ impl Slot {
     }
 }
 
-/// The slots of the index block at a position, in order.
+/// The slots of the row at a place, in order.
 #[inline]
-pub fn slots(map: &[u8], block: usize) -> impl Iterator<Item = Slot> + '_ {
-    let bytes = &map[block + LINK..block + BLOCK];
+pub fn slots(map: &[u8], place: usize) -> impl Iterator<Item = Slot> + '_ {
+    let bytes = &map[place..place + ROW * SLOT];
     bytes.chunks_exact(SLOT).map(|slot| Slot::of(slot.try_into().unwrap()))
 }
 
-/// A coordinate in 0.01 mm: the upper 24 bits.
-#[inline]
-pub fn value(raw: i32) -> i32 {
-    raw >> 8
+/// The least raw coordinate of a value in 0.01 mm: no mark is set. A window's may need more than 32 bits.
+pub fn least_raw(value: i32) -> i64 {
+    (value as i64) << 8
+}
+
+/// The greatest raw coordinate of a value in 0.01 mm: every mark is set.
+pub fn greatest_raw(value: i32) -> i64 {
+    least_raw(value) | 255
 }
 
 /// Is the first of two raw coordinates at most the second by value?

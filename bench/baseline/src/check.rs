@@ -10,7 +10,6 @@ pub struct Accepted<'a> {
     pub layout: Layout,
     /// The index blocks' positions in chain order.
     pub blocks: Vec<u32>,
-    pub first_free: Option<u32>,
     taken: Taken,
 }
 
@@ -49,7 +48,32 @@ impl Layout {
     }
 }
 
+/// What a call notes of the slots while they are judged, in slot order and by rows. The check by itself
+/// notes nothing.
+pub trait Notes {
+    #[inline]
+    fn free(&mut self, _number: u32) {}
+    #[inline]
+    fn erased(&mut self) {}
+    /// A live slot that is good.
+    #[inline]
+    fn live(&mut self, _slot: &Slot) {}
+    #[inline]
+    fn end_of_row(&mut self) {}
+}
+
+impl Notes for () {}
+
 pub fn check(buffer: &[u8], used: usize) -> Result<Accepted<'_>, Refusal> {
+    check_noting(buffer, used, &mut ())
+}
+
+/// The check. What was noted counts only if the map is accepted.
+pub fn check_noting<'a>(
+    buffer: &'a [u8],
+    used: usize,
+    notes: &mut impl Notes,
+) -> Result<Accepted<'a>, Refusal> {
     if !(HEADER..=MOST).contains(&used) || used > buffer.len() {
         return refuse(1, 0);
     }
@@ -66,8 +90,8 @@ pub fn check(buffer: &[u8], used: usize) -> Result<Accepted<'_>, Refusal> {
     let info = read_part(map, 24)?;
     let (blocks, taken) = walk_index(map, [setup, info])?;
     walk_symbols(map, &taken)?;
-    let mut accepted = Accepted { map, layout, blocks, first_free: None, taken };
-    accepted.first_free = accepted.judge_slots()?;
+    let accepted = Accepted { map, layout, blocks, taken };
+    accepted.judge_slots(notes)?;
     Ok(accepted)
 }
 
@@ -140,29 +164,35 @@ fn good_symbol(map: &[u8], taken: &Taken, position: usize) -> bool {
 }
 
 impl Accepted<'_> {
-    /// Judges the live slots; the answer is the first free slot.
-    fn judge_slots(&self) -> Result<Option<u32>, Refusal> {
+    fn judge_slots(&self, notes: &mut impl Notes) -> Result<(), Refusal> {
         // a loop for each layout, so that none is asked for within
         match self.layout {
-            Layout::Bytes => self.judge_slots_by(Layout::Bytes),
-            Layout::Pairs => self.judge_slots_by(Layout::Pairs),
+            Layout::Bytes => self.judge_slots_by(Layout::Bytes, notes),
+            Layout::Pairs => self.judge_slots_by(Layout::Pairs, notes),
         }
     }
 
     #[inline(always)]
-    fn judge_slots_by(&self, layout: Layout) -> Result<Option<u32>, Refusal> {
+    fn judge_slots_by(&self, layout: Layout, notes: &mut impl Notes) -> Result<(), Refusal> {
         let (map, taken) = (self.map, &self.taken);
-        let mut first_free = None;
         for (nth, &block) in self.blocks.iter().enumerate() {
-            for (i, slot) in slots(map, block as usize).enumerate() {
-                if slot.free() {
-                    first_free = first_free.or(Some((nth * SLOTS + i) as u32));
-                } else if slot.live() && !good(map, layout, taken, &slot, slot.sym) {
-                    return refuse(7, block as usize + LINK + SLOT * i);
+            for row in (0..SLOTS).step_by(ROW) {
+                let place = block as usize + LINK + SLOT * row;
+                for (i, slot) in slots(map, place).enumerate() {
+                    if slot.free() {
+                        notes.free((nth * SLOTS + row + i) as u32);
+                    } else if !slot.live() {
+                        notes.erased();
+                    } else if good(map, layout, taken, &slot, slot.sym) {
+                        notes.live(&slot);
+                    } else {
+                        return refuse(7, place + SLOT * i);
+                    }
                 }
+                notes.end_of_row();
             }
         }
-        Ok(first_free)
+        Ok(())
     }
 
     /// Would the slot be good with this Sym?

@@ -1,7 +1,7 @@
 //! The edits: check, journal, then the edit's own refusals; nothing is written before the last one.
 
 use crate::bytes::*;
-use crate::check::{check, Accepted, Layout};
+use crate::check::{check_noting, Accepted, Layout, Notes};
 use crate::journal::{self, Records, ADD, REINSTATE, REMOVE};
 use crate::{refuse, Refusal};
 
@@ -19,9 +19,19 @@ pub struct Lent<'a> {
     pub edit: u32,
 }
 
+/// The first free slot, which an add takes.
+struct FirstFree(Option<u32>);
+
+impl Notes for FirstFree {
+    #[inline]
+    fn free(&mut self, number: u32) {
+        self.0 = self.0.or(Some(number));
+    }
+}
+
 impl Lent<'_> {
-    fn open(&self) -> Result<(Accepted<'_>, Records), Refusal> {
-        let accepted = check(self.map, self.used)?;
+    fn open(&self, notes: &mut impl Notes) -> Result<(Accepted<'_>, Records), Refusal> {
+        let accepted = check_noting(self.map, self.used, notes)?;
         let records = journal::read(self.journal, &accepted, self.edit)?;
         Ok((accepted, records))
     }
@@ -42,7 +52,8 @@ impl Lent<'_> {
 
 pub fn add(lent: &mut Lent, object: &[u8]) -> Result<Done, Refusal> {
     let used = lent.used;
-    let (accepted, records) = lent.open()?;
+    let mut first_free = FirstFree(None);
+    let (accepted, records) = lent.open(&mut first_free)?;
     if let Some((kind, slot)) = records.held {
         let place = accepted.place_of(slot).unwrap();
         let stored = accepted.slot_at(place);
@@ -53,7 +64,7 @@ pub fn add(lent: &mut Lent, object: &[u8]) -> Result<Done, Refusal> {
         None => return refuse(10, 0),
     };
     let block = used + object.len();
-    let (slot, place, length) = match accepted.first_free {
+    let (slot, place, length) = match first_free.0 {
         Some(slot) => (slot, accepted.place_of(slot).unwrap(), block),
         None => ((accepted.blocks.len() * SLOTS) as u32, block + LINK, block + BLOCK),
     };
@@ -131,7 +142,7 @@ fn change(
     kind: u32,
     wanted: impl Fn(&Accepted, &Slot) -> Option<i16>,
 ) -> Result<Done, Refusal> {
-    let (accepted, records) = lent.open()?;
+    let (accepted, records) = lent.open(&mut ())?;
     if let Some(held) = records.held {
         return lent.repeat(held == (kind, at), at);
     }

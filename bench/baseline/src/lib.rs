@@ -1,6 +1,7 @@
 //! Document 01 in plain safe Rust, written for speed: what the proved library is measured against.
 //!
-//! `check` judges a map in linear time and keeps what it learnt; `search` and `edit` begin with it.
+//! `check` judges a map in linear time and keeps what it learnt; `search` and `edit` begin with it, and note
+//! what they need of the slots on its way.
 //! Unsafe code is in `interface` alone, which makes slices of C pointers.
 
 #![deny(unsafe_code)]

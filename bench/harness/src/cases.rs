@@ -11,8 +11,14 @@ const ROOM: usize = 2_200;
 const BEHIND: usize = 300_000;
 pub const GROWTH: [usize; 4] = [250, 500, 1_000, 2_000];
 
-/// The row whose count the page tells.
+/// Windows: left, bottom, right, top.
+const SMALL: [i32; 4] = [-1_000, -1_000, 1_000, 1_000];
+const HALF: [i32; 4] = [-i32::MAX, -i32::MAX, 0, i32::MAX];
+const ALL: [i32; 4] = [-i32::MAX, -i32::MAX, i32::MAX, i32::MAX];
+
+/// The rows whose counts the page tells.
 pub const SMALL_WINDOW: &str = "small window, 2,000 blocks";
+pub const HALF_WINDOW: &str = "half-covering window, 2,000 blocks";
 
 /// The row in which each side has a journal of its own.
 const AGAINST_EACH: &str = "remove: numbers chosen against each side, 20 blocks";
@@ -54,8 +60,8 @@ impl Bench {
         self.row(group, name, lend(map, Vec::new()), Call::Check, Want::Done);
     }
 
-    fn search(&mut self, group: &'static str, name: &str, map: &Map, half: i32) {
-        self.search_into(group, name, map, half, map.slots(), Want::Done);
+    fn search(&mut self, group: &'static str, name: &str, map: &Map, window: [i32; 4]) {
+        self.search_into(group, name, map, window, map.slots(), Want::Done);
     }
 
     fn search_into(
@@ -63,14 +69,18 @@ impl Bench {
         group: &'static str,
         name: &str,
         map: &Map,
-        half: i32,
+        window: [i32; 4],
         room: usize,
         want: Want,
     ) {
-        let window = [-half, -half, half, half];
         let mut lent = lend(map, Vec::new());
         lent.list = vec![0xEEEE_EEEE; room];
         self.row(group, name, lent, Call::Search { window }, want);
+    }
+
+    /// The count that the last search found.
+    fn found(&self) -> usize {
+        self.rows.last().unwrap().answer.outs[1] as usize
     }
 
     pub fn all(&mut self) {
@@ -97,19 +107,30 @@ impl Bench {
     }
 
     fn searches(&mut self) {
-        self.search(SEARCH, "all-covering window, one object", &one_object(), i32::MAX);
+        self.search(SEARCH, "all-covering window, one object", &one_object(), ALL);
+        let map = maps::full(8, 1, ROOM);
+        self.search(SEARCH, "small window, one full block", &map, SMALL);
+        self.search(SEARCH, "half-covering window, one full block", &map, HALF);
         let map = maps::own_objects(7, 20);
-        self.search(SEARCH, "small window, 20 blocks", &map, 1_000);
-        self.search(SEARCH, "all-covering window, 20 blocks", &map, i32::MAX);
+        self.search(SEARCH, "small window, 20 blocks", &map, SMALL);
+        self.search(SEARCH, "half-covering window, 20 blocks", &map, HALF);
+        self.search(SEARCH, "all-covering window, 20 blocks", &map, ALL);
+        let none = "all-covering window, 20 blocks, no room (9)";
+        self.search_into(SEARCH, none, &map, ALL, 0, Want::Refused(9));
+        let map = maps::full(7, 2_000, ROOM);
+        self.search(SEARCH, "small window, 2,000 blocks, OCAD 7", &map, SMALL);
         let map = maps::full(8, 2_000, ROOM);
-        self.search(SEARCH, SMALL_WINDOW, &map, 1_000);
-        self.search(SEARCH, "all-covering window, 2,000 blocks", &map, i32::MAX);
+        self.search(SEARCH, SMALL_WINDOW, &map, SMALL);
+        self.search(SEARCH, HALF_WINDOW, &map, HALF);
+        let just = "half-covering window, 2,000 blocks, room for just these";
+        self.search_into(SEARCH, just, &map, HALF, self.found(), Want::Done);
+        self.search(SEARCH, "all-covering window, 2,000 blocks", &map, ALL);
         let short = "small window, 2,000 blocks, room for 100";
-        self.search_into(SEARCH, short, &map, 1_000, 100, Want::Done);
+        self.search_into(SEARCH, short, &map, SMALL, 100, Want::Done);
         let none = "all-covering window, 2,000 blocks, no room (9)";
-        self.search_into(SEARCH, none, &map, i32::MAX, 0, Want::Refused(9));
+        self.search_into(SEARCH, none, &map, ALL, 0, Want::Refused(9));
         let short = "all-covering window, 2,000 blocks, room for all but one (9)";
-        self.search_into(SEARCH, short, &map, i32::MAX, map.slots() - 1, Want::Refused(9));
+        self.search_into(SEARCH, short, &map, ALL, map.slots() - 1, Want::Refused(9));
     }
 
     /// Edits on a map that has just begun, under journals without a record.
@@ -178,13 +199,14 @@ impl Bench {
         self.check(WORST, &name, &map);
         let map = maps::scrambled(8, 2_000, ROOM);
         self.check(WORST, "check: 2,000 blocks in random order, objects anywhere", &map);
-        self.search(WORST, "search: 2,000 blocks in random order, all-covering", &map, i32::MAX);
+        self.search(WORST, "search: 2,000 blocks in random order, all-covering", &map, ALL);
         let map = maps::mixed(8, 2_000, ROOM);
         self.check(WORST, "check: 2,000 blocks, slots live, erased, free at random", &map);
-        self.search(WORST, "search: slots live, erased, free at random, all-covering", &map, i32::MAX);
+        self.search(WORST, "search: slots live, erased, free at random, small window", &map, SMALL);
+        self.search(WORST, "search: slots live, erased, free at random, all-covering", &map, ALL);
         let mut map = maps::full(8, 2_000, ROOM);
         (0..map.slots()).for_each(|slot| map.erase(slot));
-        self.search(WORST, "search: 2,000 blocks, every slot erased, all-covering", &map, i32::MAX);
+        self.search(WORST, "search: 2,000 blocks, every slot erased, all-covering", &map, ALL);
         let map = maps::large_objects(5);
         self.check(WORST, "check: 5 objects of 32,768 pairs, a full symbol block", &map);
         let map = maps::symbols(20, 14_000, 348);

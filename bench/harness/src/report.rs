@@ -1,6 +1,6 @@
 //! The printed table and COST.md.
 
-use crate::cases::{Bench, GROWS, GROWTH, SMALL_WINDOW};
+use crate::cases::{Bench, GROWS, GROWTH, HALF_WINDOW, SMALL_WINDOW};
 use crate::measure::{Effort, Row};
 use std::fmt::Write;
 
@@ -77,7 +77,10 @@ pub fn summary(rows: &[Row]) -> String {
 
 /// COST.md.
 pub fn page(bench: &Bench) -> String {
-    let small = bench.rows.iter().find(|row| row.name == SMALL_WINDOW).unwrap();
+    let count = |name: &str| {
+        let row = bench.rows.iter().find(|row| row.name == name).unwrap();
+        grouped(row.answer.outs[1] as usize)
+    };
     let library = match std::env::consts::ARCH {
         _ if cfg!(feature = "itself") => "the baseline in the library's place, to try the harness",
         "x86_64" => "the archive of the proved crates that `hosts/build --archive` writes",
@@ -94,7 +97,8 @@ pub fn page(bench: &Bench) -> String {
         .replace("{{pairs}}", &pairs)
         .replace("{{machine}}", &machine())
         .replace("{{tables}}", &tables(&bench.rows))
-        .replace("{{small}}", &small.answer.outs[1].to_string())
+        .replace("{{small}}", &count(SMALL_WINDOW))
+        .replace("{{half}}", &count(HALF_WINDOW))
         .replace("{{growth}}", &growth(&bench.rows))
 }
 
