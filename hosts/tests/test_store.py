@@ -7,11 +7,12 @@ import fcntl
 import os
 import random
 import shutil
+import signal
 import subprocess
 import time
 import unittest
 from pathlib import Path
-from typing import Callable, List, Sequence, Tuple
+from typing import Callable, ContextManager, List, Sequence, Tuple
 
 from support_host import FolderTest, command_line, environment, object_bytes, run
 from support_cut import (
@@ -32,7 +33,8 @@ from support_cut import (
 
 import taffrail
 from taffrail import layout
-from taffrail.files import FileProblem, Files
+from taffrail.files import FileProblem, Files, Locked
+from taffrail.locks import EXCLUSIVE, SHARED, TURNSTILE, opened
 from taffrail.pending import Pending, change_between, encode_pending
 from taffrail.store import PARTNER, PENDING, Store, Wanted
 
@@ -579,8 +581,8 @@ class Unfinished(CutTest):
         self.assertEqual(scene.look_with(journal_then_map), scene.old)
 
 
-class ManyAtOnce(FolderTest):
-    """Processes that edit one map at the same time lose nothing."""
+class ChildrenTest(FolderTest):
+    """A test with processes that use its files at the same time."""
 
     def start(self, work: Callable[[], None]) -> int:
         child = os.fork()
@@ -597,6 +599,10 @@ class ManyAtOnce(FolderTest):
         for child in children:
             _, status = os.waitpid(child, 0)
             self.assertEqual(status, 0)
+
+
+class ManyAtOnce(ChildrenTest):
+    """Processes that edit one map at the same time lose nothing."""
 
     def adds(self, first: int, count: int) -> Callable[[], None]:
         def work() -> None:
@@ -698,6 +704,111 @@ class ManyAtOnce(FolderTest):
 
         self.assert_all_end_well([self.start(toggles(self.map, 2)), self.start(toggles(other, 22))])
         self.assertEqual(len(layout.read_journal(self.journal.read_bytes())), 41)
+
+
+class SlowFiles(Files):
+    """A slow disk, so that whoever reads in a loop holds the lock for most of it."""
+
+    def read(self, handle: int, size: int, at: int) -> bytes:
+        time.sleep(0.02)
+        return super().read(handle, size, at)
+
+
+class NoTurnstile(Files):
+    """A system without locks on bytes."""
+
+    def lock_byte(self, handle: int, kind: int, at: int) -> None:
+        raise OSError(errno.EINVAL, os.strerror(errno.EINVAL))
+
+
+class Turns(ChildrenTest):
+    """Whoever waits for a file gets it, however many use it in a loop."""
+
+    LIMIT = 20.0  # seconds; whoever gets a turn waits for a small part of it
+
+    def setUp(self) -> None:
+        super().setUp()
+        self.make_pair()
+        self.wanted = [Wanted(str(path), MOST) for path in (self.map, self.journal)]
+
+    def start_until_the_end(self, work: Callable[[], None]) -> None:
+        child = self.start(work)
+        self.addCleanup(os.waitpid, child, 0)
+        self.addCleanup(os.kill, child, signal.SIGKILL)
+
+    def wait_until(self, condition: Callable[[], bool]) -> None:
+        deadline = time.monotonic() + self.LIMIT
+        while not condition():
+            self.assertLess(time.monotonic(), deadline)
+            time.sleep(0.01)
+
+    def reads_in_a_loop(self, begun: Path) -> Callable[[], None]:
+        def work() -> None:
+            while True:
+                Store(SlowFiles()).read(self.wanted[0])
+                begun.touch()
+
+        return work
+
+    def test_an_editor_among_readers(self) -> None:
+        begun = [self.folder / f"reader-{number}" for number in range(8)]
+        for path in begun:
+            self.start_until_the_end(self.reads_in_a_loop(path))
+        self.wait_until(lambda: all(path.exists() for path in begun))
+        with Store(wait=self.LIMIT).edit(*self.wanted) as group:
+            group.save(*group.contents)
+
+    def holding(self, kind: int) -> ContextManager[object]:
+        """The map held in this way, without waiting for it."""
+        return opened(Files(), [str(self.map)], kind, time.monotonic())
+
+    def waits_and_holds(self, kind: int) -> None:
+        with opened(Files(), [str(self.map)], kind, time.monotonic() + self.LIMIT):
+            time.sleep(self.LIMIT)
+
+    def someone_waits(self) -> bool:
+        with open(self.map, "r+b") as file:
+            try:
+                Files().lock_byte(file.fileno(), fcntl.F_WRLCK, TURNSTILE)
+            except BlockingIOError:
+                return True
+        return False
+
+    def assert_next(self, other: int, mine: int) -> None:
+        """Who holds the file cannot have it again before another who waits for it."""
+        with self.holding(mine):
+            self.start_until_the_end(lambda: self.waits_and_holds(other))
+            self.wait_until(self.someone_waits)
+        with self.assertRaises(Locked), self.holding(mine):
+            pass
+
+    def test_an_editor_comes_before_a_reader_who_has_had_a_turn(self) -> None:
+        self.assert_next(EXCLUSIVE, SHARED)
+
+    def test_a_reader_comes_before_an_editor_who_has_had_a_turn(self) -> None:
+        self.assert_next(SHARED, EXCLUSIVE)
+
+    def test_an_editor_comes_before_an_editor_who_has_had_a_turn(self) -> None:
+        self.assert_next(EXCLUSIVE, EXCLUSIVE)
+
+    def test_who_has_given_up_is_not_waited_for(self) -> None:
+        with self.holding(SHARED):
+            with self.assertRaises(Locked), self.holding(EXCLUSIVE):
+                pass
+            with self.holding(SHARED):
+                pass
+
+    def test_readers_read_together(self) -> None:
+        with self.holding(SHARED), self.holding(SHARED):
+            self.assertFalse(self.someone_waits())
+
+    def test_a_system_without_a_turnstile(self) -> None:
+        store = Store(NoTurnstile(), wait=0)
+        with store.edit(*self.wanted) as group:
+            group.save(*group.contents)
+            with self.assertRaises(Locked):
+                store.read(self.wanted[0])
+        self.assertEqual(store.read(self.wanted[0]), self.map.read_bytes())
 
 
 class Saving(FolderTest):

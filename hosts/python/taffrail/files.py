@@ -5,6 +5,7 @@ from __future__ import annotations
 import errno
 import fcntl
 import os
+import struct
 from typing import List
 
 
@@ -37,6 +38,9 @@ def name_is_too_long(path: str, problem: OSError) -> bool:
     return problem.errno == errno.ENAMETOOLONG and len(os.fsencode(path)) <= LONGEST_PATH
 
 
+LOCK_FORM = struct.Struct("hhqqi4x")  # struct flock: kind, whence, start, length, owner
+
+
 class Files:
     """Every system call of the store, one method each.
 
@@ -57,6 +61,9 @@ class Files:
 
     def lock(self, handle: int, kind: int) -> None:
         fcntl.flock(handle, kind | fcntl.LOCK_NB)
+
+    def lock_byte(self, handle: int, kind: int, at: int) -> None:
+        fcntl.fcntl(handle, fcntl.F_OFD_SETLK, LOCK_FORM.pack(kind, os.SEEK_SET, at, 1, 0))
 
     def about(self, handle: int) -> os.stat_result:
         return os.fstat(handle)

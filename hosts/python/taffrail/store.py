@@ -7,7 +7,8 @@ What is promised
   never a done edit without its record, nor a record without its edit.
 * A power cut does the same, and an edit that was reported done stays done.
 * Two processes that edit one map at once do so one after the other, and a reader sees a file
-  as it is before an edit or after it.
+  as it is before an edit or after it. Whoever waits for a file gets a turn, however many use
+  it in a loop.
 * Files keep their names, owners, modes and symbolic links, and they never get shorter.
 
 How it is done
