@@ -11,6 +11,7 @@ import signal
 import subprocess
 import time
 import unittest
+from dataclasses import replace
 from pathlib import Path
 from typing import Callable, ContextManager, List, Sequence, Tuple
 
@@ -833,7 +834,8 @@ class Saving(FolderTest):
 
     def test_a_file_that_was_not_read_to_its_end(self) -> None:
         self.map.write_bytes(b"longer")
-        with Store().edit(Wanted(str(self.map), 3)) as group:
+        with Store().edit(Wanted(str(self.map), 3, first_bytes_will_do=True)) as group:
+            self.assertEqual(group.contents, [b"lon"])
             with self.assertRaisesRegex(FileProblem, "too long"):
                 group.save(b"other")
         self.assertEqual(self.map.read_bytes(), b"longer")
@@ -861,6 +863,45 @@ class Saving(FolderTest):
             self.object.write_bytes(object_bytes([(edit, edit)] * count))
             self.assertEqual(self.add_bridge(edit).code, 0)
         self.assertEqual(run("check", self.map).code, 0)
+
+
+class TooLong(CutTest):
+    """A file that is longer than it may be: its start is never taken for the whole."""
+
+    def assert_too_long(self, wanted: Wanted) -> None:
+        words = f"longer than {wanted.most:,} bytes"
+        with self.assertRaisesRegex(FileProblem, words):
+            Store().read(wanted)
+        with self.assertRaisesRegex(FileProblem, words), Store().edit(wanted):
+            self.fail("it was handed out")
+
+    def test_a_map(self) -> None:
+        wanted = Wanted(str(self.map), layout.MAP_LIMIT)
+        self.map.write_bytes(layout.empty_map(8))
+        os.truncate(self.map, layout.MAP_LIMIT)
+        self.assertEqual(len(Store().read(wanted)), layout.MAP_LIMIT)
+        os.truncate(self.map, layout.MAP_LIMIT + 1)
+        self.assert_too_long(wanted)
+
+    def test_a_journal(self) -> None:
+        self.journal.write_bytes(bytes(layout.JOURNAL_LIMIT + 1))
+        self.assert_too_long(Wanted(str(self.journal), layout.JOURNAL_LIMIT))
+
+    def test_the_first_bytes_are_asked_for(self) -> None:
+        self.map.write_bytes(b"longer")
+        wanted = Wanted(str(self.map), 3, first_bytes_will_do=True)
+        self.assertEqual(Store().read(wanted), b"lon")
+
+    def test_a_map_that_an_edit_makes_too_long(self) -> None:
+        """The edit was cut and cannot be finished by a reader."""
+        scene = self.first_add()
+        scene.run(2, ["rename"], cut_after)
+        path = scene.work / "maps" / "city.ocd"
+        path.chmod(0o444)
+        wanted = Wanted(str(path), len(scene.new[0]))
+        self.assertEqual(Store().read(wanted), scene.new[0])
+        with self.assertRaisesRegex(FileProblem, "longer than"):
+            Store().read(replace(wanted, most=wanted.most - 1))
 
 
 class OwnersRefused(Files):

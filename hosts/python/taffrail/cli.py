@@ -150,7 +150,7 @@ def run_reinstate(given: argparse.Namespace, store: Store) -> Report:
 
 def run_journal(given: argparse.Namespace, store: Store) -> Report:
     """List the records of a journal."""
-    contents = store.read(Wanted(given.journal, JOURNAL_LIMIT + 1))
+    contents = store.read(wanted_journal(given.journal))
     try:
         records = layout.read_journal(contents)
     except layout.JournalFault as fault:
@@ -196,10 +196,9 @@ EditCall = Callable[[bytearray, int, bytearray], EditResult]
 
 def run_edit(given: argparse.Namespace, store: Store, room: int, call: EditCall) -> Report:
     """One edit on a pair of files, saved only where it was done now."""
-    wanted = (Wanted(given.map, MAP_LIMIT + 1), Wanted(given.journal, JOURNAL_LIMIT + 1))
+    wanted = (Wanted(given.map, MAP_LIMIT), wanted_journal(given.journal))
     with store.edit(*wanted) as group:
         old_map, old_journal = group.contents
-        refuse_too_long(given.map, old_map)
         map_buffer = bytearray(old_map) + bytes(room)
         journal = bytearray(old_journal)
         answer = call(map_buffer, len(old_map), journal)
@@ -222,14 +221,12 @@ def refuse_idle_words(given: argparse.Namespace) -> None:
 
 
 def read_map(path: str, store: Store) -> bytes:
-    contents = store.read(Wanted(path, MAP_LIMIT + 1))
-    refuse_too_long(path, contents)
-    return contents
+    return store.read(Wanted(path, MAP_LIMIT))
 
 
-def refuse_too_long(path: str, contents: bytes) -> None:
-    if len(contents) > MAP_LIMIT:
-        raise FileProblem(f"{path}: is longer than {MAP_LIMIT:,} bytes, the most a map can have")
+def wanted_journal(path: str) -> Wanted:
+    """One byte over the limit is enough for the library to refuse a journal."""
+    return Wanted(path, JOURNAL_LIMIT + 1, first_bytes_will_do=True)
 
 
 def read_object(path: str) -> bytes:

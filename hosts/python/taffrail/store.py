@@ -105,10 +105,20 @@ MAY_NOT_GIVE = (errno.EPERM, errno.EACCES, errno.EINVAL)  # EINVAL: not known in
 
 @dataclass(frozen=True)
 class Wanted:
-    """A file to open, and the most bytes of it that are of use."""
+    """A file to open, and the most bytes that it may have. A longer one is a FileProblem,
+    unless its first bytes will do."""
 
     path: str
     most: int
+    first_bytes_will_do: bool = False
+
+    def of(self, contents: bytes) -> bytes:
+        """What is wanted of these contents, or of their start that is too long already."""
+        if len(contents) > self.most and not self.first_bytes_will_do:
+            raise FileProblem(
+                f"{self.path}: is longer than {self.most:,} bytes, the most that it may have"
+            )
+        return contents[: self.most]
 
 
 Contents = Sequence[bytes]  # of each file of an edit
@@ -145,8 +155,8 @@ class Store:
         self._wait = wait
 
     def read(self, wanted: Wanted) -> bytes:
-        """The contents of a file, after finishing an edit that was cut; or as they will be
-        then, where it cannot be finished from here."""
+        """The whole contents of a file, after finishing an edit that was cut; or as they will
+        be then, where it cannot be finished from here."""
         deadline = time.monotonic() + self._wait
         path = self._path_of(wanted.path)
         can_finish = True
@@ -154,9 +164,9 @@ class Store:
             with opened(self._files, [path], SHARED, deadline) as (file,):
                 pending = self._pending_of(path)
                 if pending is None:
-                    return self._contents(file, wanted.most)
+                    return self._wanted(file, wanted)
                 if not can_finish:
-                    return self._outcome(file, pending.change_of(path))
+                    return wanted.of(self._outcome(file, pending.change_of(path)))
             can_finish = self._try_to_finish(pending)
 
     @contextmanager
@@ -169,7 +179,7 @@ class Store:
             with opened(self._files, paths, EXCLUSIVE, deadline) as held:
                 pending = self._pending_of_any(paths)
                 if pending is None:
-                    yield self._start(held, [one.most for one in wanted])
+                    yield self._start(held, wanted)
                     return
             self._finish_first(pending, deadline)
 
@@ -191,7 +201,8 @@ class Store:
             raise
 
     def _fill(self, files: Sequence[Tuple[str, bytes]]) -> None:
-        with self.edit(*[Wanted(path, 1) for path, _ in files]) as group:
+        wanted = [Wanted(path, 1, first_bytes_will_do=True) for path, _ in files]
+        with self.edit(*wanted) as group:
             for (path, _), found in zip(files, group.contents):
                 if found:
                     raise FileProblem(f"{path}: exists already; nothing was changed")
@@ -208,10 +219,10 @@ class Store:
 
     # Saving: steps 2 to 5.
 
-    def _start(self, held: Sequence[Opened], most: Sequence[int]) -> Group:
+    def _start(self, held: Sequence[Opened], wanted: Sequence[Wanted]) -> Group:
         """The edit's group, what earlier edits have left behind being out of the way."""
         self._discard_leftovers([file.path for file in held])
-        contents = [self._contents(file, limit) for file, limit in zip(held, most)]
+        contents = [self._wanted(file, one) for file, one in zip(held, wanted)]
 
         def save(old: Contents, new: Contents) -> None:
             self._save(held, old, new)
@@ -441,6 +452,9 @@ class Store:
                 " for the files of a save; a map or a journal needs another name"
             )
         return real
+
+    def _wanted(self, file: Opened, wanted: Wanted) -> bytes:
+        return wanted.of(self._contents(file, wanted.most + 1))
 
     def _contents(self, file: Opened, most: int) -> bytes:
         try:
