@@ -1,7 +1,8 @@
 """The command line: ``python3 -m taffrail COMMAND ...`` on files.
 
 Exit codes: 0 for done, done before, accepted, found and listed; 1 for refused; 2 for wrong
-usage and for files that cannot be used; 130 for an interrupt. With --json every command writes
+usage and for files that cannot be used; 3 for done where something failed afterwards; 130 for
+an interrupt. With --json every command writes
 one JSON object to standard output, for refusals, file problems and wrong usage too. Files are
 opened, locked and saved by the module ``store``; a refusal writes nothing.
 """
@@ -32,7 +33,7 @@ from typing import (
 
 from . import layout
 from .calls import add, check, reinstate, remove, room_for_add, search
-from .files import FileProblem, Files, file_problem
+from .files import DoneUnfinished, FileProblem, Files, file_problem
 from .layout import JOURNAL_LIMIT, MAP_LIMIT, MOST_RECORDS, OBJECT_LIMIT, Slot
 from .library import LibraryError
 from .results import Done, DoneBefore, EditResult, Refused, refused
@@ -41,7 +42,7 @@ from .store import DEFAULT_WAIT, Store, Wanted
 PROGRAM = "taffrail"
 JSON = "--json"
 
-DONE, REFUSED, UNUSABLE = 0, 1, 2  # the exit codes
+DONE, REFUSED, UNUSABLE, FAILED_AFTERWARDS = 0, 1, 2, 3  # the exit codes
 INTERRUPTED = 130
 
 NEW_VERSION = 8  # of a new map, unless another is asked for
@@ -88,8 +89,8 @@ def run_new(given: argparse.Namespace, store: Store) -> Report:
         files.append((given.journal, layout.empty_journal(records)))
         facts.update(journal=given.journal, records=records)
         lines.append(f"new journal {given.journal}: room for {records:,} edits")
-    store.create(files)
-    return Report(DONE, facts, "\n".join(lines))
+    report = Report(DONE, facts, "\n".join(lines))
+    return report_saved(report, lambda: store.create(files))
 
 
 def run_check(given: argparse.Namespace, store: Store) -> Report:
@@ -202,9 +203,11 @@ def run_edit(given: argparse.Namespace, store: Store, room: int, call: EditCall)
         map_buffer = bytearray(old_map) + bytes(room)
         journal = bytearray(old_journal)
         answer = call(map_buffer, len(old_map), journal)
-        if isinstance(answer, Done):
-            group.save(bytes(map_buffer[: answer.length]), bytes(journal))
-    return report_edit(answer, given.edit)
+        report = report_edit(answer, given.edit)
+        if not isinstance(answer, Done):
+            return report
+        new_map = bytes(map_buffer[: answer.length])
+        return report_saved(report, lambda: group.save(new_map, bytes(journal)))
 
 
 # Reading what a command is given.
@@ -273,6 +276,18 @@ def report_edit(answer: EditResult, edit: int) -> Report:
     facts = {"result": result, "edit": edit, "slot": answer.slot, "length": answer.length}
     text = f"{result}: edit {edit}, slot {answer.slot}, map of {answer.length:,} bytes"
     return Report(DONE, facts, text)
+
+
+def report_saved(report: Report, save: Callable[[], None]) -> Report:
+    """Saves what is reported to be done. Where the save is done but not finished, so is the
+    report."""
+    try:
+        save()
+    except DoneUnfinished as problem:
+        result = f"{report.facts['result']} unfinished"
+        facts = {**report.facts, "result": result, "message": str(problem)}
+        return Report(FAILED_AFTERWARDS, facts, f"{report.text}\n{PROGRAM}: {problem}")
+    return report
 
 
 def report_usage(problem: WrongUsage) -> Report:
@@ -358,7 +373,8 @@ def make_parser() -> Parser:
     parser = Parser(
         prog=PROGRAM,
         description="OCAD 6, 7 and 8 maps: check, search and edit, under a journal of edits.",
-        epilog="Exit codes: 0 done or done before, 1 refused, 2 usage or files, 130 interrupted.",
+        epilog="Exit codes: 0 done or done before, 1 refused, 2 usage or files, 3 done and then"
+        " something failed, 130 interrupted.",
     )
     commands = parser.add_subparsers(metavar="COMMAND", required=True)
     common = make_common()
@@ -478,8 +494,14 @@ def tell(report: Report, as_json: bool) -> int:
     except OSError as problem:
         silence(sys.stdout)
         complain(f"{PROGRAM}: standard output: {problem.strerror}")
-        return UNUSABLE
+        return FAILED_AFTERWARDS if says_done(report) else UNUSABLE
     return report.exit_code
+
+
+def says_done(report: Report) -> bool:
+    """Whether the files hold what the command was to do, now or since before."""
+    result: str = report.facts["result"]
+    return result.startswith(("done", "new"))
 
 
 def write(report: Report, as_json: bool) -> None:

@@ -57,7 +57,8 @@ def opened(
         yield [held[path] for path in paths]
     finally:
         for file in held.values():
-            files.close(file.handle)
+            with suppress(OSError):  # what was written is on disk, so nothing is lost
+                files.close(file.handle)
 
 
 def _open_and_lock(files: Files, path: str, kind: int, deadline: float) -> Opened:
