@@ -2,9 +2,9 @@
 
 Exit codes: 0 for done, done before, accepted, found and listed; 1 for refused; 2 for wrong
 usage and for files that cannot be used; 3 for done where something failed afterwards; 130 for
-an interrupt. With --json every command writes
-one JSON object to standard output, for refusals, file problems and wrong usage too. Files are
-opened, locked and saved by the module ``store``; a refusal writes nothing.
+an interrupt. With --json every command writes one JSON object to standard output, for refusals,
+file problems and wrong usage too. Files are opened, locked and saved by the module ``store``; a
+refusal writes nothing.
 """
 
 from __future__ import annotations
@@ -279,8 +279,7 @@ def report_edit(answer: EditResult, edit: int) -> Report:
 
 
 def report_saved(report: Report, save: Callable[[], None]) -> Report:
-    """Saves what is reported to be done. Where the save is done but not finished, so is the
-    report."""
+    """Saves what the report says is done. That a save could not be finished is told with it."""
     try:
         save()
     except DoneUnfinished as problem:

@@ -123,7 +123,7 @@ class Wanted:
     first_bytes_will_do: bool = False
 
     def of(self, contents: bytes) -> bytes:
-        """What is wanted of these contents, or of their start that is too long already."""
+        """What is wanted of a file. Of one that is too long the most and a byte are enough."""
         if len(contents) > self.most and not self.first_bytes_will_do:
             raise FileProblem(
                 f"{self.path}: is longer than {self.most:,} bytes, the most that it may have"
@@ -271,8 +271,8 @@ class Store:
             ) from problem
 
     def _reserve(self, held: Sequence[Opened], pending: Pending) -> int:
-        """Reserves room for all that is written when the edit is done. How many bytes of room
-        could not be reserved and have to be looked for in another way."""
+        """Reserves room for all that is written when the edit is done. Gives the bytes of room
+        that the file system cannot reserve."""
         spare = 0
         for file, change in zip(held, pending.changes):
             for at, data in change.pieces:
@@ -293,8 +293,8 @@ class Store:
             self._remove(file.path + PARTNER)
 
     def _put(self, path: str, data: bytes, beside: Opened, spare: int = 0) -> None:
-        """Writes a whole file and gives it its name in one step. On the way there the file
-        has been longer by some spare bytes, so there is room for as many."""
+        """Writes a whole file and gives it its name in one step. Before that it has been longer
+        by the spare bytes, so there is room for as many."""
         part = path + PART
         discard(self._files, part)
         handle = self._files.create(part, os.O_WRONLY | os.O_EXCL, 0o600)
