@@ -18,7 +18,17 @@ from typing import Any, Callable, NamedTuple, Sequence
 from taffrail import cli
 from taffrail.files import Files
 
-CHANGING = ("create", "write", "sync", "set_owner", "set_mode", "rename", "remove")
+CHANGING = (
+    "create",
+    "write",
+    "reserve",
+    "truncate",
+    "sync",
+    "set_owner",
+    "set_mode",
+    "rename",
+    "remove",
+)
 ALL = tuple(name for name in vars(Files) if not name.startswith("_"))
 
 # What happens at the chosen call, in place of it: given the files, the name and what it takes.

@@ -30,7 +30,7 @@ from support_host import (
 import taffrail
 from taffrail import cli, layout
 
-DONE, REFUSED, UNUSABLE = 0, 1, 2
+DONE, REFUSED, UNUSABLE, FAILED_AFTERWARDS = 0, 1, 2, 3
 COMMANDS = ("new", "check", "search", "add", "remove", "reinstate", "journal", "show")
 
 
@@ -664,19 +664,37 @@ class Output(CliTest):
         child.stderr.close()
         self.assertEqual(child.wait(), DONE)
 
-    @unittest.skipUnless(os.path.exists("/dev/full"), "there is no /dev/full")
-    def test_a_full_disk(self) -> None:
+    def assert_code_on_a_full_disk(self, code: int, *words: object) -> None:
+        """The exit code where the answer cannot be written."""
         with open("/dev/full", "wb") as full:
             ended = subprocess.run(
-                command_line("check", self.map),
+                command_line(*words),
                 env=environment(),
                 stdout=full,
                 stderr=subprocess.PIPE,
                 check=False,
             )
-        self.assertEqual(ended.returncode, UNUSABLE)
+        self.assertEqual(ended.returncode, code)
         self.assertIn(b"No space left", ended.stderr)
         self.assertNotIn(b"Traceback", ended.stderr)
+
+    @unittest.skipUnless(os.path.exists("/dev/full"), "there is no /dev/full")
+    def test_a_full_disk(self) -> None:
+        self.assert_code_on_a_full_disk(UNUSABLE, "check", self.map)
+
+    @unittest.skipUnless(os.path.exists("/dev/full"), "there is no /dev/full")
+    def test_a_full_disk_after_an_edit(self) -> None:
+        """The exit code says that it is done."""
+        removal = ("remove", self.map, self.journal, "--edit", 2, "--slot", 0)
+        self.assert_code_on_a_full_disk(FAILED_AFTERWARDS, *removal)
+        again = "done before: edit 2, slot 0, map of 6,236 bytes\n"
+        self.assert_done(self.remove(2, 0), again)
+        self.assert_code_on_a_full_disk(FAILED_AFTERWARDS, *removal, "--json")
+        other = self.folder / "other.ocd"
+        self.assert_code_on_a_full_disk(FAILED_AFTERWARDS, "new", other)
+        self.assertEqual(other.read_bytes(), layout.empty_map(8))
+        refused = ("remove", self.map, self.journal, "--edit", 3, "--slot", 0, "--json")
+        self.assert_code_on_a_full_disk(UNUSABLE, *refused)
 
     @unittest.skipUnless(os.path.exists("/dev/full"), "there is no /dev/full")
     def test_standard_error_that_cannot_be_written(self) -> None:

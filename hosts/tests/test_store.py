@@ -4,14 +4,19 @@ from __future__ import annotations
 
 import errno
 import fcntl
+import json
 import os
 import random
+import resource
 import shutil
+import signal
 import subprocess
 import time
+import traceback
 import unittest
+from dataclasses import replace
 from pathlib import Path
-from typing import Callable, List, Sequence, Tuple
+from typing import Callable, ContextManager, List, Sequence, Tuple
 
 from support_host import FolderTest, command_line, environment, object_bytes, run
 from support_cut import (
@@ -29,14 +34,17 @@ from support_cut import (
     run_here,
     run_in_child,
 )
+from support_disk import PAGE, SmallDisk, fill_disk, mount_small_disk
 
 import taffrail
 from taffrail import layout
-from taffrail.files import FileProblem, Files
+from taffrail.files import DoneUnfinished, FileProblem, Files, Locked
+from taffrail.locks import EXCLUSIVE, SHARED, TURNSTILE, opened
 from taffrail.pending import Pending, change_between, encode_pending
 from taffrail.store import PARTNER, PENDING, Store, Wanted
 
 MOST = 10_000_000
+NO_DISK = 77  # the exit code of a child that gets no disk of its own
 Pair = Tuple[bytes, bytes]
 
 
@@ -120,6 +128,28 @@ def without_writing(folder: Path) -> Pair:
 
 
 LOOKS = (map_then_journal, journal_then_map, an_edit, without_writing)
+
+
+class ChildrenTest(FolderTest):
+    """A test with processes that use its files at the same time."""
+
+    def start(self, work: Callable[[], None]) -> int:
+        child = os.fork()
+        if child == 0:
+            code = 1
+            try:
+                work()
+                code = 0
+            except BaseException:
+                traceback.print_exc()
+            finally:
+                os._exit(code)
+        return child
+
+    def assert_all_end_well(self, children: Sequence[int]) -> None:
+        for child in children:
+            _, status = os.waitpid(child, 0)
+            self.assertEqual(status, 0)
 
 
 class CutTest(FolderTest):
@@ -314,12 +344,22 @@ class FailingCalls(CutTest):
         scene = self.first_add()
         for chosen in range(1, scene.calls[CHANGING] + 1):
             ended = scene.run(chosen, CHANGING, no_space)
-            self.assertEqual((ended.cut, ended.code), (False, 2), ended.wrote)
-            done = "the edit is done and kept in" in ended.wrote
-            self.assertNotIn("Traceback", ended.wrote)
+            self.assertIn(ended.code, (2, 3), ended.wrote)
+            done = ended.code == 3
+            self.assertEqual("the edit is done" in ended.wrote, done, ended.wrote)
             for look in LOOKS:
                 seen = scene.look_with(look)
                 self.assertEqual(seen, scene.new if done else scene.old, ended.wrote)
+
+    def test_any_call(self) -> None:
+        """The exit code says done, 0 or 3, exactly where the edit is done."""
+        scene = self.first_add()
+        for chosen in range(1, scene.calls[ALL] + 1):
+            ended = scene.run(chosen, ALL, broken)
+            seen = scene.look_with(map_then_journal)
+            self.assertEqual(ended.code in (0, 3), seen == scene.new, (chosen, ended.wrote))
+            self.assertIn(seen, (scene.old, scene.new))
+            self.assertNotIn("Traceback", ended.wrote)
 
     def test_new(self) -> None:
         """A pair is made wholly, or nothing is left of the try."""
@@ -330,8 +370,8 @@ class FailingCalls(CutTest):
             for path in self.folder.glob("city*"):
                 path.unlink()
             ended = run_in_child(command, CountingFiles(CHANGING, chosen, no_space))
-            self.assertEqual((ended.cut, ended.code), (False, 2), ended.wrote)
-            done = "the edit is done and kept in" in ended.wrote
+            self.assertIn(ended.code, (2, 3), ended.wrote)
+            done = ended.code == 3
             if done:
                 seen = [Store().read(Wanted(str(path), MOST)) for path in (self.map, self.journal)]
                 self.assertEqual(seen, [layout.empty_map(8), bytes(64)])
@@ -339,6 +379,26 @@ class FailingCalls(CutTest):
                 self.assertEqual(self.names(), ["bridge.object"], chosen)
             found.append(done)
         self.assertEqual(set(found), {False, True})
+
+    def test_what_is_told_when_it_is_done(self) -> None:
+        """The answer and then the trouble."""
+        scene = self.first_add()
+        last = scene.count(["remove"])
+        trouble = (
+            f"{scene.work}/maps/city.ocd: the edit is done, but the files could not be brought up"
+            " to date (No space left on device); the next command finishes it"
+        )
+        answer = "done: edit 1, slot 0, map of 6,236 bytes"
+        ended = scene.run(last, ["remove"], no_space)
+        self.assertEqual(ended, (False, 3, f"{answer}\ntaffrail: {trouble}\n"))
+
+    def test_what_is_told_of_new_files(self) -> None:
+        command = ["new", self.map, "--journal", self.journal, "--json"]
+        ended = run_in_child(command, CountingFiles(["write"], 3, no_space))
+        self.assertEqual(ended.code, 3)
+        told = json.loads(ended.wrote)
+        self.assertEqual((told["result"], told["records"]), ("new unfinished", 4_096))
+        self.assertIn("the next command finishes it", told["message"])
 
     def test_new_leaves_what_it_has_not_made(self) -> None:
         """An empty file that was there before stays, and so does one that others have filled."""
@@ -369,6 +429,149 @@ class FailingCalls(CutTest):
         ended = run_in_child(scene.arguments(scene.work, scene.command), files)
         self.assertEqual(ended.code, 2)
         self.assertIn("No space left on device", ended.wrote)
+
+
+class FilledByOthers(SmallDisk):
+    """A disk whose room others take as soon as an edit is done."""
+
+    def rename(self, path: str, new_path: str) -> None:
+        super().rename(path, new_path)
+        if new_path.endswith(PENDING):
+            self.left = 0
+
+
+class Recording(Files):
+    """Notes what is reserved and what is written: in which file, from where, how much."""
+
+    def __init__(self) -> None:
+        self.reserved: List[Tuple[int, int, int]] = []
+        self.written: List[Tuple[int, int, int]] = []
+
+    def reserve(self, handle: int, at: int, size: int) -> None:
+        self.reserved.append((self.about(handle).st_ino, at, size))
+
+    def write(self, handle: int, data: bytes, at: int) -> int:
+        self.written.append((self.about(handle).st_ino, at, len(data)))
+        return super().write(handle, data, at)
+
+
+class LittleRoom(CutTest, ChildrenTest):
+    """On a disk with little room an edit is done, or nothing is changed."""
+
+    def large_add(self) -> Scene:
+        """An add with which the map grows by some blocks."""
+        self.object.write_bytes(object_bytes([(5, 5)] * 1_500))
+        return self.first_add()
+
+    def assert_refused(self, scene: Scene, ended: Ended, words: str) -> None:
+        """Nothing was changed, nothing is left, and with room the command is done."""
+        self.assertEqual(ended.code, 2, ended.wrote)
+        self.assertIn(words, ended.wrote)
+        self.assertIn("nothing was changed", ended.wrote)
+        self.assertEqual(scene.pair_in(scene.work), scene.old)
+        self.assertEqual(list(scene.work.rglob("*taffrail*")), [])
+        self.assertEqual(run_here(*scene.arguments(scene.work, scene.command)).code, 0)
+        self.assertEqual(scene.pair_in(scene.work), scene.new)
+
+    def assert_done_or_refused(self, scene: Scene, run_with: Callable[[int], Ended]) -> None:
+        """With more and more blocks left: refused up to some number, and done from there."""
+        codes = []
+        for left in range(20):
+            scene.begin()
+            ended = run_with(left)
+            codes.append(ended.code)
+            if ended.code == 0:
+                self.assertEqual(scene.pair_in(scene.work), scene.new)
+            else:
+                self.assert_refused(scene, ended, "No space left on device")
+        self.assertEqual(codes, sorted(codes, reverse=True))
+        self.assertEqual(set(codes), {0, 2})
+
+    def assert_done_or_refused_on_a_played_disk(self, can_reserve: bool) -> None:
+        scene = self.large_add()
+        arguments = scene.arguments(scene.work, scene.command)
+        self.assert_done_or_refused(
+            scene, lambda left: run_in_child(arguments, SmallDisk(left, can_reserve))
+        )
+
+    def test_a_disk_that_can_reserve(self) -> None:
+        self.assert_done_or_refused_on_a_played_disk(True)
+
+    def test_a_disk_that_cannot_reserve(self) -> None:
+        self.assert_done_or_refused_on_a_played_disk(False)
+
+    def test_a_real_disk(self) -> None:
+        child = self.start(self.on_a_real_disk)
+        _, status = os.waitpid(child, 0)
+        if os.WEXITSTATUS(status) == NO_DISK:
+            self.skipTest("the system does not let this user mount a disk")
+        self.assertEqual(status, 0)
+
+    def on_a_real_disk(self) -> None:
+        try:
+            mount_small_disk(self.folder, 256 * PAGE)
+        except OSError:
+            os._exit(NO_DISK)
+        scene = self.large_add()
+        arguments = scene.arguments(scene.work, scene.command)
+
+        def run_with(left: int) -> Ended:
+            filler = fill_disk(self.folder, left * PAGE)
+            ended = run_here(*arguments)
+            filler.unlink()
+            return ended
+
+        self.assert_done_or_refused(scene, run_with)
+
+    def test_a_limit_on_the_size_of_files(self) -> None:
+        """A real one, which lets a save write the pending file and not the longer map."""
+        scene = self.second_add()
+        limit = len(scene.new[0]) - 1
+
+        def limited() -> None:
+            resource.setrlimit(resource.RLIMIT_FSIZE, (limit, limit))
+
+        for files in (Files(), Recording()):  # which does not ask for the limit when reserving
+            scene.begin()
+            ended = run_in_child(scene.arguments(scene.work, scene.command), files, limited)
+            self.assert_refused(scene, ended, "File too large")
+
+    def test_reserved_room_is_given_back(self) -> None:
+        scene = self.large_add()
+        scene.begin()
+        path = scene.work / "maps" / "city.ocd"
+        before = path.stat().st_blocks
+        self.assertEqual(scene.run(1, ["rename"], no_space).code, 2)
+        self.assertEqual(path.stat().st_blocks, before)
+
+    def test_room_is_reserved_for_all_that_is_written(self) -> None:
+        """What is written over may be a hole in the file, which takes no room before."""
+        self.make_pair()
+        wanted = [Wanted(str(path), MOST) for path in (self.map, self.journal)]
+        files = Recording()
+        with Store(files).edit(*wanted) as group:
+            group.save(*[b"new" + content for content in group.contents])
+        own = {path.stat().st_ino for path in (self.map, self.journal)}
+        written = [place for place in files.written if place[0] in own]
+        self.assertEqual(len(written), 4)
+        self.assertEqual(sorted(files.reserved), sorted(written))
+
+    def test_room_that_others_take(self) -> None:
+        """Where room cannot be reserved, others may take it when the edit is done. Then the
+        command says that it is done, and the next one finishes it."""
+        scene = self.large_add()
+        scene.begin()
+        arguments = scene.arguments(scene.work, scene.command)
+        ended = run_in_child([*arguments, "--json"], FilledByOthers(100, can_reserve=False))
+        self.assertEqual(ended.code, 3, ended.wrote)
+        told = json.loads(ended.wrote)
+        self.assertEqual((told["result"], told["slot"]), ("done unfinished", 0))
+        self.assertIn("No space left on device", told["message"])
+        self.assertEqual(scene.look_with(without_writing), scene.new)
+        again = run_here(*arguments)
+        self.assertEqual((again.code, again.wrote[:12]), (0, "done before:"))
+        self.assertEqual(scene.pair_in(scene.work), scene.new)
+        self.assertEqual(list(scene.work.rglob("*taffrail*")), [])
 
 
 class ClosedFolder(Files):
@@ -579,24 +782,8 @@ class Unfinished(CutTest):
         self.assertEqual(scene.look_with(journal_then_map), scene.old)
 
 
-class ManyAtOnce(FolderTest):
+class ManyAtOnce(ChildrenTest):
     """Processes that edit one map at the same time lose nothing."""
-
-    def start(self, work: Callable[[], None]) -> int:
-        child = os.fork()
-        if child == 0:
-            code = 1
-            try:
-                work()
-                code = 0
-            finally:
-                os._exit(code)
-        return child
-
-    def assert_all_end_well(self, children: Sequence[int]) -> None:
-        for child in children:
-            _, status = os.waitpid(child, 0)
-            self.assertEqual(status, 0)
 
     def adds(self, first: int, count: int) -> Callable[[], None]:
         def work() -> None:
@@ -700,6 +887,111 @@ class ManyAtOnce(FolderTest):
         self.assertEqual(len(layout.read_journal(self.journal.read_bytes())), 41)
 
 
+class SlowFiles(Files):
+    """A slow disk, so that whoever reads in a loop holds the lock for most of it."""
+
+    def read(self, handle: int, size: int, at: int) -> bytes:
+        time.sleep(0.02)
+        return super().read(handle, size, at)
+
+
+class NoTurnstile(Files):
+    """A system without locks on bytes."""
+
+    def lock_byte(self, handle: int, kind: int, at: int) -> None:
+        raise OSError(errno.EINVAL, os.strerror(errno.EINVAL))
+
+
+class Turns(ChildrenTest):
+    """Whoever waits for a file gets it, however many use it in a loop."""
+
+    LIMIT = 20.0  # seconds; whoever gets a turn waits for a small part of it
+
+    def setUp(self) -> None:
+        super().setUp()
+        self.make_pair()
+        self.wanted = [Wanted(str(path), MOST) for path in (self.map, self.journal)]
+
+    def start_until_the_end(self, work: Callable[[], None]) -> None:
+        child = self.start(work)
+        self.addCleanup(os.waitpid, child, 0)
+        self.addCleanup(os.kill, child, signal.SIGKILL)
+
+    def wait_until(self, condition: Callable[[], bool]) -> None:
+        deadline = time.monotonic() + self.LIMIT
+        while not condition():
+            self.assertLess(time.monotonic(), deadline)
+            time.sleep(0.01)
+
+    def reads_in_a_loop(self, begun: Path) -> Callable[[], None]:
+        def work() -> None:
+            while True:
+                Store(SlowFiles()).read(self.wanted[0])
+                begun.touch()
+
+        return work
+
+    def test_an_editor_among_readers(self) -> None:
+        begun = [self.folder / f"reader-{number}" for number in range(8)]
+        for path in begun:
+            self.start_until_the_end(self.reads_in_a_loop(path))
+        self.wait_until(lambda: all(path.exists() for path in begun))
+        with Store(wait=self.LIMIT).edit(*self.wanted) as group:
+            group.save(*group.contents)
+
+    def holding(self, kind: int) -> ContextManager[object]:
+        """The map held in this way, without waiting for it."""
+        return opened(Files(), [str(self.map)], kind, time.monotonic())
+
+    def waits_and_holds(self, kind: int) -> None:
+        with opened(Files(), [str(self.map)], kind, time.monotonic() + self.LIMIT):
+            time.sleep(self.LIMIT)
+
+    def someone_waits(self) -> bool:
+        with open(self.map, "r+b") as file:
+            try:
+                Files().lock_byte(file.fileno(), fcntl.F_WRLCK, TURNSTILE)
+            except BlockingIOError:
+                return True
+        return False
+
+    def assert_next(self, other: int, mine: int) -> None:
+        """Who holds the file cannot have it again before another who waits for it."""
+        with self.holding(mine):
+            self.start_until_the_end(lambda: self.waits_and_holds(other))
+            self.wait_until(self.someone_waits)
+        with self.assertRaises(Locked), self.holding(mine):
+            pass
+
+    def test_an_editor_comes_before_a_reader_who_has_had_a_turn(self) -> None:
+        self.assert_next(EXCLUSIVE, SHARED)
+
+    def test_a_reader_comes_before_an_editor_who_has_had_a_turn(self) -> None:
+        self.assert_next(SHARED, EXCLUSIVE)
+
+    def test_an_editor_comes_before_an_editor_who_has_had_a_turn(self) -> None:
+        self.assert_next(EXCLUSIVE, EXCLUSIVE)
+
+    def test_who_has_given_up_is_not_waited_for(self) -> None:
+        with self.holding(SHARED):
+            with self.assertRaises(Locked), self.holding(EXCLUSIVE):
+                pass
+            with self.holding(SHARED):
+                pass
+
+    def test_readers_read_together(self) -> None:
+        with self.holding(SHARED), self.holding(SHARED):
+            self.assertFalse(self.someone_waits())
+
+    def test_a_system_without_a_turnstile(self) -> None:
+        store = Store(NoTurnstile(), wait=0)
+        with store.edit(*self.wanted) as group:
+            group.save(*group.contents)
+            with self.assertRaises(Locked):
+                store.read(self.wanted[0])
+        self.assertEqual(store.read(self.wanted[0]), self.map.read_bytes())
+
+
 class Saving(FolderTest):
     def test_files_keep_what_they_are(self) -> None:
         self.make_pair()
@@ -722,7 +1014,8 @@ class Saving(FolderTest):
 
     def test_a_file_that_was_not_read_to_its_end(self) -> None:
         self.map.write_bytes(b"longer")
-        with Store().edit(Wanted(str(self.map), 3)) as group:
+        with Store().edit(Wanted(str(self.map), 3, first_bytes_will_do=True)) as group:
+            self.assertEqual(group.contents, [b"lon"])
             with self.assertRaisesRegex(FileProblem, "too long"):
                 group.save(b"other")
         self.assertEqual(self.map.read_bytes(), b"longer")
@@ -750,6 +1043,45 @@ class Saving(FolderTest):
             self.object.write_bytes(object_bytes([(edit, edit)] * count))
             self.assertEqual(self.add_bridge(edit).code, 0)
         self.assertEqual(run("check", self.map).code, 0)
+
+
+class TooLong(CutTest):
+    """A file that is longer than it may be: its start is never taken for the whole."""
+
+    def assert_too_long(self, wanted: Wanted) -> None:
+        words = f"longer than {wanted.most:,} bytes"
+        with self.assertRaisesRegex(FileProblem, words):
+            Store().read(wanted)
+        with self.assertRaisesRegex(FileProblem, words), Store().edit(wanted):
+            self.fail("it was handed out")
+
+    def test_a_map(self) -> None:
+        wanted = Wanted(str(self.map), layout.MAP_LIMIT)
+        self.map.write_bytes(layout.empty_map(8))
+        os.truncate(self.map, layout.MAP_LIMIT)
+        self.assertEqual(len(Store().read(wanted)), layout.MAP_LIMIT)
+        os.truncate(self.map, layout.MAP_LIMIT + 1)
+        self.assert_too_long(wanted)
+
+    def test_a_journal(self) -> None:
+        self.journal.write_bytes(bytes(layout.JOURNAL_LIMIT + 1))
+        self.assert_too_long(Wanted(str(self.journal), layout.JOURNAL_LIMIT))
+
+    def test_the_first_bytes_are_asked_for(self) -> None:
+        self.map.write_bytes(b"longer")
+        wanted = Wanted(str(self.map), 3, first_bytes_will_do=True)
+        self.assertEqual(Store().read(wanted), b"lon")
+
+    def test_a_map_that_an_edit_makes_too_long(self) -> None:
+        """The edit was cut and cannot be finished by a reader."""
+        scene = self.first_add()
+        scene.run(2, ["rename"], cut_after)
+        path = scene.work / "maps" / "city.ocd"
+        path.chmod(0o444)
+        wanted = Wanted(str(path), len(scene.new[0]))
+        self.assertEqual(Store().read(wanted), scene.new[0])
+        with self.assertRaisesRegex(FileProblem, "longer than"):
+            Store().read(replace(wanted, most=wanted.most - 1))
 
 
 class OwnersRefused(Files):
@@ -851,7 +1183,7 @@ class SavingTwice(FolderTest):
                 group.save(*self.ONE)
             with self.assertRaisesRegex(FileProblem, "an earlier save .* failed"):
                 group.save(*self.TWO)
-        done = "the edit is done and kept in" in str(caught.exception)
+        done = isinstance(caught.exception, DoneUnfinished)
         seen = tuple(Store(wait=0).read(one) for one in wanted)
         self.assertEqual(seen, self.ONE if done else self.ZERO)
         return done
@@ -876,7 +1208,7 @@ class SavingTwice(FolderTest):
         self.assert_each_is_safe("remove", 2)
 
     def test_what_comes_before_the_edit_is_done(self) -> None:
-        for name in ("create", "rename", "set_owner", "set_mode"):
+        for name in ("create", "rename", "reserve", "set_owner", "set_mode"):
             self.assert_each_is_safe(name, 0)
 
     def test_the_files_opened_again(self) -> None:

@@ -1,9 +1,10 @@
 """The command line: ``python3 -m taffrail COMMAND ...`` on files.
 
 Exit codes: 0 for done, done before, accepted, found and listed; 1 for refused; 2 for wrong
-usage and for files that cannot be used; 130 for an interrupt. With --json every command writes
-one JSON object to standard output, for refusals, file problems and wrong usage too. Files are
-opened, locked and saved by the module ``store``; a refusal writes nothing.
+usage and for files that cannot be used; 3 for done where something failed afterwards; 130 for
+an interrupt. With --json every command writes one JSON object to standard output, for refusals,
+file problems and wrong usage too. Files are opened, locked and saved by the module ``store``; a
+refusal writes nothing.
 """
 
 from __future__ import annotations
@@ -32,7 +33,7 @@ from typing import (
 
 from . import layout
 from .calls import add, check, reinstate, remove, room_for_add, search
-from .files import FileProblem, Files, file_problem
+from .files import DoneUnfinished, FileProblem, Files, file_problem
 from .layout import JOURNAL_LIMIT, MAP_LIMIT, MOST_RECORDS, OBJECT_LIMIT, Slot
 from .library import LibraryError
 from .results import Done, DoneBefore, EditResult, Refused, refused
@@ -41,7 +42,7 @@ from .store import DEFAULT_WAIT, Store, Wanted
 PROGRAM = "taffrail"
 JSON = "--json"
 
-DONE, REFUSED, UNUSABLE = 0, 1, 2  # the exit codes
+DONE, REFUSED, UNUSABLE, FAILED_AFTERWARDS = 0, 1, 2, 3  # the exit codes
 INTERRUPTED = 130
 
 NEW_VERSION = 8  # of a new map, unless another is asked for
@@ -88,8 +89,8 @@ def run_new(given: argparse.Namespace, store: Store) -> Report:
         files.append((given.journal, layout.empty_journal(records)))
         facts.update(journal=given.journal, records=records)
         lines.append(f"new journal {given.journal}: room for {records:,} edits")
-    store.create(files)
-    return Report(DONE, facts, "\n".join(lines))
+    report = Report(DONE, facts, "\n".join(lines))
+    return report_saved(report, lambda: store.create(files))
 
 
 def run_check(given: argparse.Namespace, store: Store) -> Report:
@@ -150,7 +151,7 @@ def run_reinstate(given: argparse.Namespace, store: Store) -> Report:
 
 def run_journal(given: argparse.Namespace, store: Store) -> Report:
     """List the records of a journal."""
-    contents = store.read(Wanted(given.journal, JOURNAL_LIMIT + 1))
+    contents = store.read(wanted_journal(given.journal))
     try:
         records = layout.read_journal(contents)
     except layout.JournalFault as fault:
@@ -196,16 +197,17 @@ EditCall = Callable[[bytearray, int, bytearray], EditResult]
 
 def run_edit(given: argparse.Namespace, store: Store, room: int, call: EditCall) -> Report:
     """One edit on a pair of files, saved only where it was done now."""
-    wanted = (Wanted(given.map, MAP_LIMIT + 1), Wanted(given.journal, JOURNAL_LIMIT + 1))
+    wanted = (Wanted(given.map, MAP_LIMIT), wanted_journal(given.journal))
     with store.edit(*wanted) as group:
         old_map, old_journal = group.contents
-        refuse_too_long(given.map, old_map)
         map_buffer = bytearray(old_map) + bytes(room)
         journal = bytearray(old_journal)
         answer = call(map_buffer, len(old_map), journal)
-        if isinstance(answer, Done):
-            group.save(bytes(map_buffer[: answer.length]), bytes(journal))
-    return report_edit(answer, given.edit)
+        report = report_edit(answer, given.edit)
+        if not isinstance(answer, Done):
+            return report
+        new_map = bytes(map_buffer[: answer.length])
+        return report_saved(report, lambda: group.save(new_map, bytes(journal)))
 
 
 # Reading what a command is given.
@@ -222,14 +224,12 @@ def refuse_idle_words(given: argparse.Namespace) -> None:
 
 
 def read_map(path: str, store: Store) -> bytes:
-    contents = store.read(Wanted(path, MAP_LIMIT + 1))
-    refuse_too_long(path, contents)
-    return contents
+    return store.read(Wanted(path, MAP_LIMIT))
 
 
-def refuse_too_long(path: str, contents: bytes) -> None:
-    if len(contents) > MAP_LIMIT:
-        raise FileProblem(f"{path}: is longer than {MAP_LIMIT:,} bytes, the most a map can have")
+def wanted_journal(path: str) -> Wanted:
+    """One byte over the limit is enough for the library to refuse a journal."""
+    return Wanted(path, JOURNAL_LIMIT + 1, first_bytes_will_do=True)
 
 
 def read_object(path: str) -> bytes:
@@ -276,6 +276,17 @@ def report_edit(answer: EditResult, edit: int) -> Report:
     facts = {"result": result, "edit": edit, "slot": answer.slot, "length": answer.length}
     text = f"{result}: edit {edit}, slot {answer.slot}, map of {answer.length:,} bytes"
     return Report(DONE, facts, text)
+
+
+def report_saved(report: Report, save: Callable[[], None]) -> Report:
+    """Saves what the report says is done. That a save could not be finished is told with it."""
+    try:
+        save()
+    except DoneUnfinished as problem:
+        result = f"{report.facts['result']} unfinished"
+        facts = {**report.facts, "result": result, "message": str(problem)}
+        return Report(FAILED_AFTERWARDS, facts, f"{report.text}\n{PROGRAM}: {problem}")
+    return report
 
 
 def report_usage(problem: WrongUsage) -> Report:
@@ -361,7 +372,8 @@ def make_parser() -> Parser:
     parser = Parser(
         prog=PROGRAM,
         description="OCAD 6, 7 and 8 maps: check, search and edit, under a journal of edits.",
-        epilog="Exit codes: 0 done or done before, 1 refused, 2 usage or files, 130 interrupted.",
+        epilog="Exit codes: 0 done or done before, 1 refused, 2 usage or files, 3 done and then"
+        " something failed, 130 interrupted.",
     )
     commands = parser.add_subparsers(metavar="COMMAND", required=True)
     common = make_common()
@@ -481,8 +493,14 @@ def tell(report: Report, as_json: bool) -> int:
     except OSError as problem:
         silence(sys.stdout)
         complain(f"{PROGRAM}: standard output: {problem.strerror}")
-        return UNUSABLE
+        return FAILED_AFTERWARDS if says_done(report) else UNUSABLE
     return report.exit_code
+
+
+def says_done(report: Report) -> bool:
+    """Whether the files hold what the command was to do, now or since before."""
+    result: str = report.facts["result"]
+    return result.startswith(("done", "new"))
 
 
 def write(report: Report, as_json: bool) -> None:

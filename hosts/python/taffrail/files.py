@@ -2,9 +2,12 @@
 
 from __future__ import annotations
 
+import ctypes
 import errno
 import fcntl
 import os
+import resource
+import struct
 from typing import List
 
 
@@ -14,6 +17,10 @@ class FileProblem(Exception):
 
 class Locked(FileProblem):
     """Another process holds the file, and the wait is over."""
+
+
+class DoneUnfinished(FileProblem):
+    """The edit is done, but not all that follows is. The next command finishes it."""
 
 
 WORDS = {
@@ -37,6 +44,13 @@ def name_is_too_long(path: str, problem: OSError) -> bool:
     return problem.errno == errno.ENAMETOOLONG and len(os.fsencode(path)) <= LONGEST_PATH
 
 
+LOCK_FORM = struct.Struct("hhqqi4x")  # struct flock: kind, whence, start, length, owner
+
+KEEP_SIZE = 1  # to fallocate: the file stays as long as it is, which posix_fallocate changes
+_fallocate = ctypes.CDLL(None, use_errno=True).fallocate
+_fallocate.argtypes = [ctypes.c_int, ctypes.c_int, ctypes.c_int64, ctypes.c_int64]
+
+
 class Files:
     """Every system call of the store, one method each.
 
@@ -58,6 +72,9 @@ class Files:
     def lock(self, handle: int, kind: int) -> None:
         fcntl.flock(handle, kind | fcntl.LOCK_NB)
 
+    def lock_byte(self, handle: int, kind: int, at: int) -> None:
+        fcntl.fcntl(handle, fcntl.F_OFD_SETLK, LOCK_FORM.pack(kind, os.SEEK_SET, at, 1, 0))
+
     def about(self, handle: int) -> os.stat_result:
         return os.fstat(handle)
 
@@ -69,6 +86,18 @@ class Files:
 
     def write(self, handle: int, data: bytes, at: int) -> int:
         return os.pwrite(handle, data, at)
+
+    def size_limit(self) -> int:
+        return resource.getrlimit(resource.RLIMIT_FSIZE)[0]
+
+    def reserve(self, handle: int, at: int, size: int) -> None:
+        while _fallocate(handle, KEEP_SIZE, at, size) != 0:
+            number = ctypes.get_errno()
+            if number != errno.EINTR:
+                raise OSError(number, os.strerror(number))
+
+    def truncate(self, handle: int, length: int) -> None:
+        os.ftruncate(handle, length)
 
     def sync(self, handle: int) -> None:
         os.fsync(handle)
@@ -104,6 +133,24 @@ def write_all(files: Files, handle: int, data: bytes, at: int) -> None:
     written = 0
     while written < len(data):
         written += files.write(handle, data[written:], at + written)
+
+
+NOT_RESERVED_HERE = (errno.EOPNOTSUPP, errno.ENOSYS, errno.EINVAL)
+
+
+def reserve(files: Files, handle: int, at: int, size: int) -> bool:
+    """Sees to it that these bytes can be written later, though the disk be full by then. No
+    where the file system cannot promise that; OSError where there is no room."""
+    limit = files.size_limit()  # of this process; some file systems ask for it too late
+    if limit != resource.RLIM_INFINITY and at + size > limit:
+        raise OSError(errno.EFBIG, os.strerror(errno.EFBIG))
+    try:
+        files.reserve(handle, at, size)
+    except OSError as problem:
+        if problem.errno not in NOT_RESERVED_HERE:
+            raise
+        return False
+    return True
 
 
 def discard(files: Files, path: str) -> None:

@@ -2,6 +2,13 @@
 
 The lock is flock on the file itself: shared for readers, exclusive for editors. It ends with
 the process that holds it, however that ends.
+
+The way to it goes through a turnstile, so that each gets a turn. The turnstile is a lock too,
+on one byte far behind the file's end, shared and exclusive in the same way. Whoever waits for
+the file holds it and is next: while an editor waits, no reader that comes later goes in, and
+while readers wait, no later editor does. Only fairness depends on it, so it is done without
+where the system has no such lock. It is one of the open file (an OFD lock), because another
+kind would end with any other handle that the process has on the file.
 """
 
 from __future__ import annotations
@@ -10,14 +17,17 @@ import fcntl
 import os
 import stat
 import time
-from contextlib import contextmanager
+from contextlib import contextmanager, suppress
 from dataclasses import dataclass
-from typing import Dict, Iterator, List, Sequence
+from typing import Callable, Dict, Iterator, List, Sequence
 
 from .files import FileProblem, Files, Locked, file_problem
 
 SHARED = fcntl.LOCK_SH
 EXCLUSIVE = fcntl.LOCK_EX
+
+TURNSTILE = 1 << 40  # the byte of a file that is its turnstile; no file in use is as long
+TURN = {SHARED: fcntl.F_RDLCK, EXCLUSIVE: fcntl.F_WRLCK}
 
 PAUSE = 0.005  # seconds between two tries
 ANY_WRITE = 0o222  # the write permissions in a file's mode
@@ -47,7 +57,8 @@ def opened(
         yield [held[path] for path in paths]
     finally:
         for file in held.values():
-            files.close(file.handle)
+            with suppress(OSError):  # what was written is on disk, so nothing is lost
+                files.close(file.handle)
 
 
 def _open_and_lock(files: Files, path: str, kind: int, deadline: float) -> Opened:
@@ -86,15 +97,37 @@ def _refuse_unfit(path: str, about: os.stat_result, kind: int) -> None:
 
 
 def _lock(files: Files, path: str, handle: int, kind: int, deadline: float) -> None:
+    """Through the turnstile to the lock. One that gives up on the way closes the handle, and
+    so frees the turnstile."""
+    _await(lambda: _enter(files, handle, kind), path, deadline)
+    _await(lambda: files.lock(handle, kind), path, deadline)
+    _leave(files, handle)
+
+
+def _await(take: Callable[[], None], path: str, deadline: float) -> None:
     while True:
         try:
-            return files.lock(handle, kind)
+            return take()
         except BlockingIOError:
             if time.monotonic() >= deadline:
                 raise Locked(f"{path}: is locked by another process") from None
         except OSError as problem:
             raise file_problem(path, problem) from problem
         time.sleep(PAUSE)
+
+
+def _enter(files: Files, handle: int, kind: int) -> None:
+    try:
+        files.lock_byte(handle, TURN[kind], TURNSTILE)
+    except BlockingIOError:
+        raise
+    except OSError:
+        pass  # there is no turnstile here
+
+
+def _leave(files: Files, handle: int) -> None:
+    with suppress(OSError):
+        files.lock_byte(handle, fcntl.F_UNLCK, TURNSTILE)
 
 
 def _still_named(files: Files, path: str, handle: int) -> bool:

@@ -7,7 +7,10 @@ What is promised
   never a done edit without its record, nor a record without its edit.
 * A power cut does the same, and an edit that was reported done stays done.
 * Two processes that edit one map at once do so one after the other, and a reader sees a file
-  as it is before an edit or after it.
+  as it is before an edit or after it. Whoever waits for a file gets a turn, however many use
+  it in a loop.
+* An edit for which the disk has no room changes nothing. What fails when an edit is done is
+  DoneUnfinished, and the next command finishes the edit.
 * Files keep their names, owners, modes and symbolic links, and they never get shorter.
 
 How it is done
@@ -15,7 +18,8 @@ How it is done
 Two files cannot be changed in one step, so the step is taken with a third. An edit
 
 1. locks the map and the journal, and reads them;
-2. writes a *partner note*, JOURNAL.taffrail-partner, which says where the map is;
+2. reserves room on the disk for what step 4 writes, and writes a *partner note*,
+   JOURNAL.taffrail-partner, which says where the map is;
 3. writes the new bytes of both files to MAP.taffrail-pending.part, and renames that to
    MAP.taffrail-pending. **From this rename on the edit is done**, before it nothing is;
 4. writes the new bytes into the journal and the map themselves;
@@ -39,6 +43,9 @@ What is assumed
 ---------------
 * A file system with POSIX semantics: rename replaces a name in one step, and fsync on a file
   or a folder brings it to the disk. Local Linux file systems do.
+* Room that is reserved (fallocate) stays reserved. Where a file system cannot reserve (NFS, or
+  btrfs and ZFS for what is written over), an edit may be done for which there is no room then.
+  Until there is, readers read what is true, and other edits are refused.
 * All programs that write the files take the same lock (flock on the file itself), or don't
   run at the same time. Programs that read without it, such as a copy program, may see the
   middle of step 4; ``flock --shared MAP cp MAP elsewhere`` does not.
@@ -69,6 +76,7 @@ from dataclasses import dataclass, replace
 from typing import Callable, Iterable, Iterator, List, Optional, Sequence, Tuple
 
 from .files import (
+    DoneUnfinished,
     FileProblem,
     Files,
     Locked,
@@ -76,6 +84,7 @@ from .files import (
     file_problem,
     name_is_too_long,
     read_up_to,
+    reserve,
     sync_folder_of,
     write_all,
 )
@@ -98,16 +107,28 @@ OWN_ENDINGS = (PENDING, PARTNER, PENDING + PART, PARTNER + PART)
 
 DEFAULT_WAIT = 60.0  # seconds to wait for a lock
 
+BLOCK = 4_096  # bytes; a file takes room on the disk in whole blocks
+
 SAME = -1  # the user that a file has already
 MAY_NOT_GIVE = (errno.EPERM, errno.EACCES, errno.EINVAL)  # EINVAL: not known in this namespace
 
 
 @dataclass(frozen=True)
 class Wanted:
-    """A file to open, and the most bytes of it that are of use."""
+    """A file to open, and the most bytes that it may have. A longer one is a FileProblem,
+    unless its first bytes will do."""
 
     path: str
     most: int
+    first_bytes_will_do: bool = False
+
+    def of(self, contents: bytes) -> bytes:
+        """What is wanted of a file. Of one that is too long the most and a byte are enough."""
+        if len(contents) > self.most and not self.first_bytes_will_do:
+            raise FileProblem(
+                f"{self.path}: is longer than {self.most:,} bytes, the most that it may have"
+            )
+        return contents[: self.most]
 
 
 Contents = Sequence[bytes]  # of each file of an edit
@@ -144,8 +165,8 @@ class Store:
         self._wait = wait
 
     def read(self, wanted: Wanted) -> bytes:
-        """The contents of a file, after finishing an edit that was cut; or as they will be
-        then, where it cannot be finished from here."""
+        """The whole contents of a file, after finishing an edit that was cut; or as they will
+        be then, where it cannot be finished from here."""
         deadline = time.monotonic() + self._wait
         path = self._path_of(wanted.path)
         can_finish = True
@@ -153,9 +174,9 @@ class Store:
             with opened(self._files, [path], SHARED, deadline) as (file,):
                 pending = self._pending_of(path)
                 if pending is None:
-                    return self._contents(file, wanted.most)
+                    return self._wanted(file, wanted)
                 if not can_finish:
-                    return self._outcome(file, pending.change_of(path))
+                    return wanted.of(self._outcome(file, pending.change_of(path)))
             can_finish = self._try_to_finish(pending)
 
     @contextmanager
@@ -168,7 +189,7 @@ class Store:
             with opened(self._files, paths, EXCLUSIVE, deadline) as held:
                 pending = self._pending_of_any(paths)
                 if pending is None:
-                    yield self._start(held, [one.most for one in wanted])
+                    yield self._start(held, wanted)
                     return
             self._finish_first(pending, deadline)
 
@@ -190,7 +211,8 @@ class Store:
             raise
 
     def _fill(self, files: Sequence[Tuple[str, bytes]]) -> None:
-        with self.edit(*[Wanted(path, 1) for path, _ in files]) as group:
+        wanted = [Wanted(path, 1, first_bytes_will_do=True) for path, _ in files]
+        with self.edit(*wanted) as group:
             for (path, _), found in zip(files, group.contents):
                 if found:
                     raise FileProblem(f"{path}: exists already; nothing was changed")
@@ -207,10 +229,10 @@ class Store:
 
     # Saving: steps 2 to 5.
 
-    def _start(self, held: Sequence[Opened], most: Sequence[int]) -> Group:
+    def _start(self, held: Sequence[Opened], wanted: Sequence[Wanted]) -> Group:
         """The edit's group, what earlier edits have left behind being out of the way."""
         self._discard_leftovers([file.path for file in held])
-        contents = [self._contents(file, limit) for file, limit in zip(held, most)]
+        contents = [self._wanted(file, one) for file, one in zip(held, wanted)]
 
         def save(old: Contents, new: Contents) -> None:
             self._save(held, old, new)
@@ -226,9 +248,9 @@ class Store:
         try:
             self._carry_out(held, pending)
         except OSError as problem:
-            raise FileProblem(
-                f"the edit is done and kept in {held[0].path}{PENDING}, but could not be written"
-                f" to its files yet ({_told(problem)}); the next command tries again"
+            raise DoneUnfinished(
+                f"{held[0].path}: the edit is done, but the files could not be brought up to date"
+                f" ({_told(problem)}); the next command finishes it"
             ) from problem
 
     def _commit(self, held: Sequence[Opened], pending: Pending) -> None:
@@ -236,16 +258,27 @@ class Store:
         have been brought to disk before it, so one that cannot be is no trouble after it."""
         first = held[0].path
         try:
+            spare = self._reserve(held, pending)
             for file in held[1:]:
                 self._put(file.path + PARTNER, encode_note(first, file.path), file)
             for path in _one_of_each_folder(pending.paths()):
                 sync_folder_of(self._files, path)
-            self._put(first + PENDING, encode_pending(pending), held[0])
+            self._put(first + PENDING, encode_pending(pending), held[0], spare)
         except OSError as problem:
-            self._withdraw(pending.paths())
+            self._withdraw(held, pending)
             raise FileProblem(
                 f"{first}: cannot be saved ({_told(problem)}); nothing was changed"
             ) from problem
+
+    def _reserve(self, held: Sequence[Opened], pending: Pending) -> int:
+        """Reserves room for all that is written when the edit is done. Gives the bytes of room
+        that the file system cannot reserve."""
+        spare = 0
+        for file, change in zip(held, pending.changes):
+            for at, data in change.pieces:
+                if not reserve(self._files, file.handle, at, len(data)):
+                    spare += len(data) + BLOCK
+        return spare
 
     def _carry_out(self, held: Sequence[Opened], pending: Pending) -> None:
         """Steps 4 and 5. The journal comes before the map, and in the map the end before the
@@ -259,15 +292,19 @@ class Store:
         for file in held[1:]:
             self._remove(file.path + PARTNER)
 
-    def _put(self, path: str, data: bytes, beside: Opened) -> None:
-        """Writes a whole file and gives it its name in one step."""
+    def _put(self, path: str, data: bytes, beside: Opened, spare: int = 0) -> None:
+        """Writes a whole file and gives it its name in one step. Before that it has been longer
+        by the spare bytes, so there is room for as many."""
         part = path + PART
         discard(self._files, part)
         handle = self._files.create(part, os.O_WRONLY | os.O_EXCL, 0o600)
         try:
             self._give_access(handle, beside)
-            write_all(self._files, handle, data, 0)
+            write_all(self._files, handle, data + bytes(spare), 0)
             self._files.sync(handle)
+            if spare > 0:
+                self._files.truncate(handle, len(data))
+                self._files.sync(handle)
         finally:
             self._files.close(handle)
         self._files.rename(part, path)
@@ -290,11 +327,20 @@ class Store:
             return False
         return True
 
-    def _withdraw(self, paths: Sequence[str]) -> None:
-        """Removes what a save that failed before the rename has left behind. What cannot be
-        removed now does no harm; the next edit removes it."""
+    def _withdraw(self, held: Sequence[Opened], pending: Pending) -> None:
+        """Removes what a save that failed before the rename has left behind, reserved room
+        too. What cannot be removed now does no harm; the next edit removes or uses it."""
         with suppress(FileProblem):
-            self._discard_leftovers(paths)
+            self._discard_leftovers(pending.paths())
+        for file, change in zip(held, pending.changes):
+            with suppress(OSError):
+                self._free_behind(file, change)
+
+    def _free_behind(self, file: Opened, change: Change) -> None:
+        """Frees what was reserved behind the end of a file that was to grow."""
+        length = self._files.about(file.handle).st_size
+        if change.length > length:
+            self._files.truncate(file.handle, length)
 
     def _discard_leftovers(self, paths: Sequence[str]) -> None:
         """Removes what lies beside these files from saves that were never done."""
@@ -440,6 +486,9 @@ class Store:
                 " for the files of a save; a map or a journal needs another name"
             )
         return real
+
+    def _wanted(self, file: Opened, wanted: Wanted) -> bytes:
+        return wanted.of(self._contents(file, wanted.most + 1))
 
     def _contents(self, file: Opened, most: int) -> bytes:
         try:
