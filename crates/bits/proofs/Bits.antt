@@ -10,6 +10,7 @@
 --     sel-from          those below s + n that pass: those below s, and those from s on
 --     bits-moved, sel-moved     a test of the first n numbers that agrees with another from s on
 --     ones-words        words that have the bits of a test, so many each, have the numbers that pass it
+--     ones-count, bits-count     how many bits are 1, which is what the machine's count of ones gives; of a test's bits, as many as pass it
 --     word-high, word-most, ones-full     the words of the code: the highest bit, what they can hold, and one all of whose bits are 1
 use Prim.Native.Nat.{ℕ, zero, suc, _+_, _-_, _*_, _/_, _%_, _≤_, _<_}
 use mathlib.Core.Bool.{Bool, true, false, cond}
@@ -20,6 +21,7 @@ use native.Mathlib.Nat.{add-zero, add-suc, zero-add, mul-zero, mul-suc}
 use native.Mathlib.Decide.{ℕ-discrete}
 use native.Mathlib.Numerals.{add-one}
 use native.Mathlib.Omega.{arith}
+use lib.Count.{ones as count, ones-step, ones-le}
 use lib.Dec.{eqb}
 use lib.ListN.{length, getD, length-append}
 use borrow.Author.Tests.{eq-eqb, ne-eqb, eqb-true, eqb-false}
@@ -239,6 +241,20 @@ ones-some (suc n) x s l h =
     (λ e. rw (ones-even x n s e) (ones-some n (x / 2) (s + 1) (omega arith) (λ z. h (omega arith))))
     (λ e. rw (ones-odd x n s e) (omega arith))
     (parity x)
+
+-- how many are 1, as the machine counts them
+pub ones-count : (n x s : ℕ) → x < double n 1 → length (ones n x s) ≡ count x
+unfolding double ones
+ones-count zero x s l = let e : x < 1 = omega arith in omega (arith, ones-le 0 x e)
+ones-count (suc n) x s l =
+    let h = ones-count n (x / 2) (s + 1) (omega arith) in
+    ⊎-elim
+    (λ e. rw (ones-even x n s e) (omega (arith, h, ones-step x)))
+    (λ e. rw (ones-odd x n s e) (omega (arith, h, ones-step x)))
+    (parity x)
+
+pub bits-count : (p : ℕ → Bool) (n : ℕ) → count (bitsFrom p 0 n) ≡ length (sel p n)
+bits-count p n = sym (ones-count n (bitsFrom p 0 n) 0 (bits-below p 0 n)) ∙ ap length (ones-bits p 0 n ∙ from-zero p n)
 
 -- ---- the words of the code
 

@@ -1,6 +1,7 @@
 -- The look at the slots in one pass, a bit for each. Assumes nothing.
 --     unwanted-free, unwanted-erased, wanted-live     whether a slot is listed, by its fields as they are tested
---     Looks live before bits count j                  of a word's slots j were looked at: their bits stand highest in the word, and those that are live were counted
+--     Looks live bits j                               of a word's slots j were looked at: their bits stand highest in the word
+--     word-count, word-few                            how many of a word's slots are found
 --     Rows m w bad block k ws₀ ws count q             of the words of block k q were looked at: no slot was at fault, their bits stand in the words, and
 --                                                     those that are live were counted
 --     Marking m w used n ws₀ ws at count k            the same of the n blocks: k were looked at, and the next stands at `at`
@@ -11,7 +12,8 @@ use mathlib.Core.List.{List}
 use native.Mathlib.Nat.{add-zero, zero-add}
 use native.Mathlib.Decide.{ℕ-discrete}
 use native.Mathlib.Omega.{arith}
-use lib.ListN.{length, set, length-append, length-set}
+use lib.Count.{ones as count}
+use lib.ListN.{length, set, length-set}
 use lib.Seq.{getD-set-same, getD-set-other}
 use mir.Val.{boolByte}
 use borrow.Author.Tests.{eq-eqb, ne-eqb}
@@ -19,7 +21,7 @@ use Rattle.numbers.specs.Bytes.{u16At, u32At}
 use Rattle.numbers.specs.Below.{first, sel}
 use Rattle.numbers.proofs.Below.{First, first-is, first-none, sel-yes, sel-no, sel-length}
 use Rattle.bits.specs.Bits.{bit, double, bitsFrom, onesIn, wordBits}
-use Rattle.bits.proofs.Bits.{double-turn, bits-more, bits-word, bits-moved, sel-moved, ones-words, word-high, word-most}
+use Rattle.bits.proofs.Bits.{double-turn, bits-more, bits-word, bits-moved, bits-count, sel-moved, ones-words, word-high, word-most}
 use Rattle.records.specs.declared.Slot.{Slot}
 use Rattle.records.specs.declared.Window.{Window}
 use Rattle.records.specs.declared.State.the-variants.{Live}
@@ -46,10 +48,14 @@ use Rattle.accept.proofs.Slots.{no-len, has-len}
 use Rattle.find.specs.Searches.{wantedAt, SlotsOf, liveIn, slotsFor, found}
 use Rattle.find.specs.Looks.{blockWords, slotFrom, liveFrom, Marked}
 
--- what a slot adds to the count
+-- a test as a number, as the code has it
 pub one-at-most : (hit : Bool) → boolByte hit ≤ 1
 one-at-most true = omega arith
 one-at-most false = omega arith
+
+byte-bit : (b : Bool) → boolByte b ≡ bit b
+byte-bit true = refl
+byte-bit false = refl
 
 -- of the slots of n blocks at most all pass
 pub slots-low : (test : ℕ → Bool) (n : ℕ) → length (slotsFor test n) ≤ 256 * n
@@ -73,43 +79,40 @@ module _ (m : List ℕ) (w : Window) (p : ℕ) {t : Slot} (e : t ≡ slotOf m p)
 
 -- ---- a word's slots
 
-pub record Looks (live : ℕ → Bool) (before bits count j : ℕ) : Type 0 where
+pub record Looks (live : ℕ → Bool) (bits j : ℕ) : Type 0 where
   pub made : bits ≡ double (wordBits - j) (bitsFrom live 0 j)
-  pub counted : count ≡ before + length (sel live j)
 
-pub looks-start : (live : ℕ → Bool) (before : ℕ) → Looks live before 0 before 0
-unfolding bitsFrom sel double
-looks-start live before = record { made = refl; counted = sym (add-zero before) }
+pub looks-start : (live : ℕ → Bool) → Looks live 0 0
+unfolding bitsFrom double
+looks-start live = record { made = refl }
 
-module _ {live : ℕ → Bool} {before bits count j : ℕ} (k : Looks live before bits count j) where
+module _ {live : ℕ → Bool} {bits j : ℕ} (k : Looks live bits j) where
   pub looks-low : j ≤ wordBits → bits < 18446744073709551616
   looks-low h =
       let e : wordBits - j + j ≡ wordBits = omega arith in
       rw (k .made) (rw (e, word-most) at (bits-word live 0 j (wordBits - j)))
 
-  pub looks-few : count ≤ before + j
-  looks-few = omega (arith, k .counted, sel-length live j)
-
   -- a turn: the word is halved, and the slot's bit put in as the highest
-  made : j < wordBits → {b : Bool} → live j ≡ b → bits / 2 + bit b * 9223372036854775808 ≡ double (wordBits - (j + 1)) (bitsFrom live 0 (j + 1))
-  made h {b} e =
+  pub looks-on : j < wordBits → (b : Bool) → live j ≡ b → Looks live (bits / 2 + boolByte b * 9223372036854775808) (j + 1)
+  looks-on h b e =
       let i = wordBits - (j + 1) in
       let n : wordBits - j ≡ suc i = omega arith in
       let o : i + j ≡ wordBits - 1 = omega arith in
-      rw (bits-more live 0 j, zero-add j, e, k .made, n) (rw (o, word-high) at (double-turn i j (bitsFrom live 0 j) b))
+      record { made = rw (bits-more live 0 j, zero-add j, e, k .made, n, byte-bit b) (rw (o, word-high) at (double-turn i j (bitsFrom live 0 j) b)) }
 
-  pub looks-on : j < wordBits → (b : Bool) → live j ≡ b → Looks live before (bits / 2 + boolByte b * 9223372036854775808) (count + boolByte b) (j + 1)
-  looks-on h true e = record { made = made h e; counted = rw (sel-yes live j e, length-append) (omega (arith, k .counted)) }
-  looks-on h false e = record { made = made h e; counted = rw (sel-no live j e) (omega (arith, k .counted)) }
+  pub looks-past : j < wordBits → live j ≡ false → Looks live (bits / 2) (j + 1)
+  looks-past h e = let r = looks-on h false e in record { made = omega (arith, r .made) }
 
-  pub looks-past : j < wordBits → live j ≡ false → Looks live before (bits / 2) count (j + 1)
-  looks-past h e = let r = looks-on h false e in record { made = omega (arith, r .made); counted = rw (add-zero count) at (r .counted) }
-
-  pub looks-done : wordBits ≤ j → j ≤ wordBits → (bits ≡ bitsFrom live 0 wordBits) × (count ≡ before + length (sel live wordBits))
+  pub looks-done : wordBits ≤ j → j ≤ wordBits → bits ≡ bitsFrom live 0 wordBits
   unfolding double
-  looks-done h l =
-      let e : j ≡ wordBits = omega arith in
-      (k .made ∙ ap (λ (i : ℕ). double (wordBits - i) (bitsFrom live 0 i)) e, k .counted ∙ ap (λ (i : ℕ). before + length (sel live i)) e)
+  looks-done h l = let e : j ≡ wordBits = omega arith in k .made ∙ ap (λ (i : ℕ). double (wordBits - i) (bitsFrom live 0 i)) e
+
+-- how many of a word's slots are found
+pub word-count : (live : ℕ → Bool) {x : ℕ} → x ≡ bitsFrom live 0 wordBits → count x ≡ length (sel live wordBits)
+word-count live e = ap count e ∙ bits-count live wordBits
+
+pub word-few : (live : ℕ → Bool) {x : ℕ} → x ≡ bitsFrom live 0 wordBits → count x ≤ wordBits
+word-few live e = omega (arith, word-count live e, sel-length live wordBits)
 
 -- ---- the words of a block
 

@@ -113,11 +113,9 @@ pub fn checked_length(m: &[u8], used: usize) -> usize
     used
 }
 
-// What a word's slots are: the first at fault, 64 where none is. Where none is, which of them are live and meet the window, as bits, the first the lowest; and
-// how many are found with those before.
+// What a word's slots are: the first at fault, 64 where none is. Where none is, which of them are live and meet the window, as bits, the first the lowest.
 struct Word {
     bits: u64,
-    count: usize,
     bad: usize,
 }
 
@@ -127,48 +125,30 @@ const BLOCK_WORDS: usize = 4;
 // The highest bit of a word.
 const HIGH: u64 = 9223372036854775808;
 
-// A word's slots in a row, from a place on: judged, and looked at, up to the first at fault. So many were found before.
-fn look_in_word(
-    m: &[u8],
-    used: usize,
-    version: u16,
-    index: &[u32],
-    from: usize,
-    w: Window,
-    before: usize,
-) -> Word
-    requires { ⌜ (from + wordBits * slotSize ≤ used) × (used ≤ mapLimit) × (used ≤ length (now m)) × (used + indexPage ≤ length (now index) * indexPage) × Filled indexBlockSize indexPage used (now index) × (before ≤ mapLimit) ⌝ }
-    ensures { λ r. ⌜ (r .bad ≡ first (λ j. badSlot (endsMeet indexBlockSize (now (index .entry))) (now (m .entry)) used version (slotFrom from j)) wordBits) × (r .bad ≡ wordBits → (r .bits ≡ bitsFrom (liveFrom (now (m .entry)) w from) 0 wordBits) × (r .count ≡ before + length (sel (liveFrom (now (m .entry)) w from) wordBits))) ⌝ }
+// A word's slots in a row, from a place on: judged, and looked at, up to the first at fault.
+fn look_in_word(m: &[u8], used: usize, version: u16, index: &[u32], from: usize, w: Window) -> Word
+    requires { ⌜ (from + wordBits * slotSize ≤ used) × (used ≤ mapLimit) × (used ≤ length (now m)) × (used + indexPage ≤ length (now index) * indexPage) × Filled indexBlockSize indexPage used (now index) ⌝ }
+    ensures { λ r. ⌜ (r .bad ≡ first (λ j. badSlot (endsMeet indexBlockSize (now (index .entry))) (now (m .entry)) used version (slotFrom from j)) wordBits) × (r .bad ≡ wordBits → r .bits ≡ bitsFrom (liveFrom (now (m .entry)) w from) 0 wordBits) ⌝ }
 {
     let mut at = from;
     let mut bits = 0u64;
-    let mut count = before;
     let mut j = 0usize;
     while j < WORD {
         let t = Slot::at(m, at);
         bits = bits / 2;
         if t.len != 0 {
             if bad_slot(m, used, version, index, t) {
-                return Word {
-                    bits,
-                    count,
-                    bad: j,
-                };
+                return Word { bits, bad: j };
             }
             if t.sym != 0 {
                 let hit = meets_window(t, w);
                 bits += hit as u64 * HIGH;
-                count += hit as usize;
             }
         }
         at += Slot::SIZE;
         j += 1;
     }
-    Word {
-        bits,
-        count,
-        bad: WORD,
-    }
+    Word { bits, bad: WORD }
 }
 
 // What the slots of a block, or of all blocks, are: the first at fault; and, where none is, how many are found.
@@ -203,7 +183,6 @@ fn look_in_block(
             index,
             block + 4 + WORD * Slot::SIZE * q,
             w,
-            count,
         );
         if x.bad < WORD {
             return Looked {
@@ -212,7 +191,7 @@ fn look_in_block(
             };
         }
         words[BLOCK_WORDS * k + q] = x.bits;
-        count = x.count;
+        count += u64::count_ones(x.bits) as usize;
         q += 1;
     }
     Looked { bad: 256, count }

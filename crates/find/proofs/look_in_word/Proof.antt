@@ -15,22 +15,22 @@ use Rattle.accept.proofs.Looking.{Looking, look-start, look-on, look-found, loo
 use Rattle.records.specs.declared.State.the-variants.{Live}
 use Rattle.find.specs.Searches.{wantedAt}
 use Rattle.find.specs.Looks.{slotFrom, liveFrom}
-use Rattle.find.proofs.Looks.{one-at-most, Looks, looks-start, looks-low, looks-few, looks-on, looks-past, looks-done, unwanted-free, unwanted-erased, wanted-live}
+use Rattle.find.proofs.Looks.{one-at-most, Looks, looks-start, looks-low, looks-on, looks-past, looks-done, unwanted-free, unwanted-erased, wanted-live}
 use Rattle.find.proofs.look_in_word.Statement.{statement}
 use Rattle.find.proofs.look_in_word.Tie as tie
 
 abbrev Inv-loop : tie.InvT-loop
-Inv-loop m used version index from w before at₀ bits₀ count₀ j₀ at bits count j =
-    Looking (slotFrom from) wordBits (badSlot (endsMeet indexBlockSize index) m used version) at j × Looks (liveFrom m w from) before bits count j
+Inv-loop m used version index from w at₀ bits₀ j₀ at bits j =
+    Looking (slotFrom from) wordBits (badSlot (endsMeet indexBlockSize index) m used version) at j × Looks (liveFrom m w from) bits j
 
 abbrev μ-loop : tie.MeasureT-loop
-μ-loop m used version index from w before at₀ bits₀ count₀ j₀ at bits count j = wordBits - j
+μ-loop m used version index from w at₀ bits₀ j₀ at bits j = wordBits - j
 
 loop-holds : tie.Need-loop-holds Inv-loop μ-loop
 unfolding slotFrom
 loop-holds c =
     let a = c .before .before .args in
-    (look-start (omega arith), looks-start (liveFrom (now (a .m)) (a .w) (a .from)) (a .before))
+    (look-start (omega arith), looks-start (liveFrom (now (a .m)) (a .w) (a .from)))
 
 -- the slot of this turn is one of the word's
 inside : (c : tie.In-loop Inv-loop μ-loop) → c .before .loop .at + slotSize ≤ c .before .before .before .before .args .used
@@ -63,8 +63,8 @@ good c =
     (λ w. fault-free (endsMeet indexBlockSize (now (a .index))) (now (a .m)) (a .used) (a .version) at (s .at .ensures) (w .0 .left)))
     (c .if1 .came)
 
--- its bit, and the count
-found : (c : tie.Joined1 Inv-loop μ-loop) → let l = c .before .before .before .before in let a = l .before .before .before .args in Looks (liveFrom (now (a .m)) (a .w) (a .from)) (a .before) (c .if1 .bits) (c .if1 .count) (l .loop .j + 1)
+-- its bit
+found : (c : tie.Joined1 Inv-loop μ-loop) → let l = c .before .before .before .before in let a = l .before .before .before .args in Looks (liveFrom (now (a .m)) (a .w) (a .from)) (c .if1 .bits) (l .loop .j + 1)
 found c =
     let s = c .before .before in
     let t = s .before in
@@ -73,10 +73,10 @@ found c =
     let h = t .loop-test .taken in
     let here = ap (wantedAt (now (a .m)) Live (a .w)) (sym (l .inv .0 .here)) in
     ⊎-elim
-    (λ w. rw (w .6, w .7) (looks-on (l .inv .1) h (w .5 .result) (here ∙ wanted-live (now (a .m)) (a .w) (l .at) (s .at .ensures) (w .0 .taken) (w .4 .taken) ∙ sym (w .5 .ensures))))
+    (λ w. rw (w .6) (looks-on (l .inv .1) h (w .5 .result) (here ∙ wanted-live (now (a .m)) (a .w) (l .at) (s .at .ensures) (w .0 .taken) (w .4 .taken) ∙ sym (w .5 .ensures))))
     (⊎-elim
-    (λ w. rw (w .5, w .6) (looks-past (l .inv .1) h (here ∙ unwanted-erased (now (a .m)) (a .w) (l .at) (s .at .ensures) (w .0 .taken) (w .4 .left))))
-    (λ w. rw (w .1, w .2) (looks-past (l .inv .1) h (here ∙ unwanted-free (now (a .m)) (a .w) (l .at) (s .at .ensures) (w .0 .left)))))
+    (λ w. rw (w .5) (looks-past (l .inv .1) h (here ∙ unwanted-erased (now (a .m)) (a .w) (l .at) (s .at .ensures) (w .0 .taken) (w .4 .left))))
+    (λ w. rw (w .1) (looks-past (l .inv .1) h (here ∙ unwanted-free (now (a .m)) (a .w) (l .at) (s .at .ensures) (w .0 .left)))))
     (c .if1 .came)
 
 loop-again : tie.Need-loop-again Inv-loop μ-loop
@@ -107,10 +107,6 @@ look-in-word-spec =
     (λ c.
     let l = c .before .before .before .before .before .before .before .before .before in
     omega (arith, one-at-most (c .meets-window .result), looks-low (l .loop .inv .1) (l .loop .inv .0 .upto)))
-    (λ c. tt)
-    (λ c.
-    let l = c .before .before .before .before .before .before .before .before .before in
-    omega (arith, one-at-most (c .meets-window .result), looks-few (l .loop .inv .1), l .loop .inv .0 .upto, l .before .before .before .pre .5))
     (λ c. omega (arith, inside (c .before .before .before), c .before .before .before .before .before .before .before .pre .1))
     (λ c. omega (arith, c .before .before .before .loop-test .taken))
     (λ c. omega (arith, c .before .before .before .loop-test .taken))
