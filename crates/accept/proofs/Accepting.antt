@@ -16,8 +16,8 @@ use Rattle.chain.proofs.Chains.{walked-taken}
 use Rattle.accept.specs.declared.Verdict.the-variants.{Accepted}
 use Rattle.accept.specs.declared.Judged.{Judged}
 use Rattle.accept.specs.declared.Judged.the-variants.{Good, Bad}
-use Rattle.accept.specs.Rules.{indexRule, symbolRule, touches, slotAt, entryAt}
-use Rattle.accept.specs.Judging.{versionOf, lengthGood, partGood, badSlot, badEntry}
+use Rattle.judge.specs.Rules.{indexRule, symbolRule, touches, slotAt, entryAt}
+use Rattle.judge.specs.Judging.{versionOf, lengthGood, partGood, badSlot, badEntry}
 use Rattle.accept.proofs.Looking.{cells-good, cells-tell}
 use Rattle.accept.proofs.Verdicts.{length-tells, unless-tells, after-tells}
 use Rattle.accept.specs.Verdicts.{firstOf, linkJudged, fieldsJudged, headerJudged, entriesJudged, verdict, afterIndexOf, entriesJudgedOf, slotsJudgedOf, symbolsJudgedOf}

@@ -12,20 +12,20 @@ use Rattle.numbers.specs.Ranges.{share}
 use Rattle.numbers.proofs.Below.{never, any-none, any-false, or-left, or-snd}
 use Rattle.numbers.proofs.Ranges.{share-no, share-comm, within-true, within-is}
 use Rattle.records.specs.declared.Part.{Part}
-use Rattle.records.specs.declared.Slot.{Slot}
+use Rattle.slots.specs.declared.Slot.{Slot}
 use Rattle.records.specs.Sizes.{indexBlockSize, slotSize, entrySize}
 use Rattle.records.specs.Headers.{partOf, setupAt, infoAt, indexHead, symbolHead}
-use Rattle.records.specs.Slots.{slotOf, stateOf, pairsOf, bytesIn}
-use Rattle.records.specs.Objects.{objectOf, typeGood}
+use Rattle.slots.specs.Slots.{slotOf, stateOf, pairsOf, bytesIn}
+use Rattle.slots.specs.Objects.{objectOf, typeGood}
 use Rattle.chain.specs.declared.Walk.the-variants.{Blocks}
 use Rattle.chain.specs.Chains.{Rule, block, meetsBlock, inside, walked, Links, blocksOf}
 use Rattle.chain.proofs.Chains.{Pass, walked-pass, disjoint}
 use Rattle.chain.proofs.Cells.{ordered-cell}
 use Rattle.chain.proofs.AsList.{length-blocksOf, walked-links, links-block, links-walked}
-use Rattle.accept.specs.Rules.{indexRule, symbolRule, touches, slotAt, entryAt}
-use Rattle.accept.specs.Judging.{versionOf, partGood, headerFits, isLive, badSlot, badEntry}
+use Rattle.judge.specs.Rules.{indexRule, symbolRule, touches, slotAt, entryAt}
+use Rattle.judge.specs.Judging.{versionOf, partGood, headerFits, isLive, badSlot, badEntry}
 use Rattle.accept.specs.Meets.{Apart, Off, Present, Chain, GoodRecord, GoodLive, Meets, AcceptedExactly}
-use Rattle.accept.proofs.Telling.{and-true, GoodSlot, bad-tells, bad-good, bad-dead, GoodSymbol, entry-tells, entry-good, entry-unused}
+use Rattle.judge.proofs.Telling.{and-true, GoodSlot, bad-tells, bad-good, bad-dead, GoodSymbol, entry-tells, entry-good, entry-unused}
 use Rattle.accept.proofs.Accepting.{Holds, accepted-tells, accepted-is}
 
 -- ---- ranges

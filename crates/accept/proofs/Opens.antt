@@ -10,7 +10,7 @@ use Rattle.accept.specs.declared.Judged.the-variants.{Good, Bad}
 use Rattle.accept.specs.declared.Opened.{Opened}
 use Rattle.accept.specs.declared.Opened.the-variants as opened
 use Rattle.accept.specs.declared.Verdict.the-variants.{Accepted}
-use Rattle.accept.specs.Rules.{indexRule}
+use Rattle.judge.specs.Rules.{indexRule}
 use Rattle.accept.specs.Opens.{orOpened, openedAfter, openedOf, afterOpened, Open, Opens}
 use Rattle.accept.specs.Verdicts.{unless, headerJudged, symbolsJudged, slotsJudged, afterIndex, verdict, afterIndexOf}
 use Rattle.accept.proofs.Verdicts.{unless-tells, refused}

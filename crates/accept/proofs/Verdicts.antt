@@ -19,10 +19,10 @@ use Rattle.accept.specs.declared.Verdict.{Verdict}
 use Rattle.accept.specs.declared.Verdict.the-variants.{Accepted, Refused}
 use Rattle.accept.specs.declared.Judged.{Judged}
 use Rattle.accept.specs.declared.Judged.the-variants.{Good, Bad}
-use Rattle.accept.specs.Rules.{indexRule, symbolRule, touches, slotAt, entryAt}
-use Rattle.accept.specs.Judging.{versionOf, lengthGood, badSlot, badEntry}
+use Rattle.judge.specs.Rules.{indexRule, symbolRule, touches, slotAt, entryAt}
+use Rattle.judge.specs.Judging.{versionOf, lengthGood, badSlot, badEntry}
 use Rattle.accept.proofs.Looking.{cells-good}
-use Rattle.accept.proofs.Telling.{and-true}
+use Rattle.judge.proofs.Telling.{and-true}
 use Rattle.accept.specs.Verdicts.{unless, firstOf, linkJudged, fieldsJudged, headerJudged, entriesJudged, symbolsJudged, slotsJudged, afterIndex, afterIndexOf, entriesJudgedOf, slotsJudgedOf, symbolsJudgedOf}
 
 -- ---- 1: the length

@@ -18,16 +18,16 @@ use lib.Signed.{leZ}
 use Rattle.numbers.specs.Bytes.{u16At, u32At}
 use Rattle.numbers.specs.Coordinates.{valueOf}
 use Rattle.records.specs.declared.Part.{Part}
-use Rattle.records.specs.declared.Slot.{Slot}
+use Rattle.slots.specs.declared.Slot.{Slot}
 use Rattle.records.specs.Sizes.{headerSize, mapLimit, indexBlockSize, slotSize, symbolBlockSize, entrySize}
 use Rattle.records.specs.Headers.{partOf, pairGood, setupAt, infoAt, indexHead, symbolHead}
-use Rattle.records.specs.Slots.{slotOf, stateOf, lenGood, pairsOf, bytesIn}
-use Rattle.records.specs.Objects.{objectOf, typeGood}
+use Rattle.slots.specs.Slots.{slotOf, stateOf, lenGood, pairsOf, bytesIn}
+use Rattle.slots.specs.Objects.{objectOf, typeGood}
 use Rattle.records.specs.Symbols.{sizeGood}
 use Rattle.chain.specs.Chains.{Links}
 use Rattle.chain.specs.Cells.{cellIn}
 use Rattle.accept.specs.declared.Verdict.the-variants.{Accepted}
-use Rattle.accept.specs.Judging.{versionOf, isLive}
+use Rattle.judge.specs.Judging.{versionOf, isLive}
 use Rattle.accept.specs.Verdicts.{verdict}
 
 pub record Inside (used p n : ℕ) : Type 0 where

@@ -21,7 +21,7 @@ use Rattle.accept.specs.declared.Judged.{Judged}
 use Rattle.accept.specs.declared.Judged.the-variants.{Good, Bad}
 use Rattle.accept.specs.declared.Opened.{Opened}
 use Rattle.accept.specs.declared.Opened.the-variants as opened
-use Rattle.accept.specs.Rules.{indexRule}
+use Rattle.judge.specs.Rules.{indexRule}
 use Rattle.accept.specs.Verdicts.{unless, headerJudged, symbolsJudged, slotsJudged}
 
 abbrev pub orOpened : Judged → Opened → Opened

@@ -25,8 +25,8 @@ use Rattle.accept.specs.declared.Verdict.{Verdict}
 use Rattle.accept.specs.declared.Verdict.the-variants.{Accepted, Refused}
 use Rattle.accept.specs.declared.Judged.{Judged}
 use Rattle.accept.specs.declared.Judged.the-variants.{Good, Bad}
-use Rattle.accept.specs.Rules.{Family, narrow, indexRule, symbolRuleOf, touchesOf, slotAtOf, entryAt}
-use Rattle.accept.specs.Judging.{lengthGood, partGood}
+use Rattle.judge.specs.Rules.{Family, narrow, indexRule, symbolRuleOf, touchesOf, slotAtOf, entryAt}
+use Rattle.judge.specs.Judging.{lengthGood, partGood}
 
 abbrev pub numberOf : Verdict → ℕ
 numberOf (Accepted n) = 0

@@ -1,32 +1,26 @@
 // The check of a map: document 01's refusals 1 to 7, or accepted.
-use chain::Kind;
 use chain::Walk;
 use chain::fill;
-use chain::meets_block;
 use chain::walk_chain;
-use numbers::at_most;
+use judge::bad_entry;
+use judge::bad_slot;
+use judge::index_kind;
+use judge::part_good;
+use judge::symbol_kind;
 use numbers::u16_at;
 use numbers::u32_at;
 use records::Header;
-use records::IndexBlock;
-use records::ObjectHeader;
-use records::Part;
-use records::Slot;
 use records::SymbolBlock;
-use records::bytes_in;
-use records::bytes_in_range;
 use records::pair_good;
-use records::size_good;
-use records::type_good;
+use slots::IndexBlock;
+use slots::Slot;
 ghost use mathlib.Core.Path.{_≡_};
-ghost use mathlib.Core.Bool.{true, _&&_};
+ghost use mathlib.Core.Bool.{true};
 ghost use Prim.Native.Nat.{ℕ, _+_, _*_, _≤_, _<_};
 ghost use lib.ListN.{length};
-ghost use Rattle.numbers.specs.Bytes.{u32At};
 ghost use Rattle.numbers.specs.Below.{first};
 ghost use Rattle.records.specs.Sizes.{headerSize, indexBlockSize, indexPage, slotSize, symbolBlockSize, symbolPage, entrySize, smallMap, middleMap, mapLimit};
 ghost use Rattle.records.specs.Headers.{indexHead};
-ghost use Rattle.records.specs.Slots.{slotOf, lenGood, bytesIn, bytesInRange};
 ghost use Rattle.chain.specs.Chains.{walked, taken};
 ghost use Rattle.chain.specs.Cells.{cellIn};
 ghost use Rattle.chain.specs.Tables.{Empty, Placed, Filled, Table, EndsTable, endsMeet};
@@ -34,8 +28,8 @@ ghost use Rattle.chain.specs.declared.Walk.the-variants.{Blocks};
 ghost use Rattle.accept.specs.declared.Verdict.the-variants.{Accepted};
 ghost use Rattle.accept.specs.declared.Examined.the-variants as examined;
 ghost use Rattle.accept.specs.Slots.{firstFree, freeIn, withFree};
-ghost use Rattle.accept.specs.Rules.{indexRule, symbolRule, indexKind, symbolKind};
-ghost use Rattle.accept.specs.Judging.{partGood, headerFits, objectGood, slotGood, badSlot, symbolGood, badEntry};
+ghost use Rattle.judge.specs.Rules.{indexRule, symbolRule};
+ghost use Rattle.judge.specs.Judging.{badSlot, badEntry};
 ghost use Rattle.accept.specs.Opens.{openedAfter, openedOf, afterOpened, Open, Opens};
 ghost use Rattle.accept.specs.Verdicts.{numberOf, placeOf, unless, fieldsJudged, headerJudged, cellsJudged, entriesJudged, symbolsJudged, slotsJudged, afterIndex, verdict};
 
@@ -87,20 +81,6 @@ pub fn place(v: Verdict) -> u32
         Verdict::Accepted { blocks: _ } => 0,
         Verdict::Refused { number: _, place } => place,
     }
-}
-
-// Setup or info: absent, or behind the header and inside the map.
-fn part_good(used: usize, p: Part) -> bool
-    requires { ⌜ used ≤ mapLimit ⌝ }
-    ensures { λ r. ⌜ r ≡ partGood used p ⌝ }
-{
-    if p.size == 0 {
-        return true;
-    }
-    if (p.at as usize) < Header::SIZE {
-        return false;
-    }
-    p.at as usize + p.size as usize <= used
 }
 
 // 2: the mark. 3: the version pair. 4: setup, then info.
@@ -162,66 +142,6 @@ fn judge_header(m: &[u8], used: usize) -> Judged
     judge_fields(Header::of(m), used)
 }
 
-// Whether an object's header fits its slot, whose object has so many bytes. The last test also settles that a Len in 6 and 7 is one of whole pairs.
-fn header_fits(h: ObjectHeader, t: Slot, bytes: usize) -> bool
-    ensures { λ r. ⌜ ((version : ℕ) → bytesInRange bytes ≡ true → bytes ≡ bytesIn version (t .len) → r ≡ (lenGood version (t .len) && headerFits h version t)) ⌝ }
-{
-    if h.sym != t.sym {
-        return false;
-    }
-    if !type_good(h.kind) {
-        return false;
-    }
-    ObjectHeader::SIZE + ObjectHeader::PAIR * (h.items as usize + h.texts as usize) == bytes
-}
-
-// Whether a slot's Len is allowed and its object is good. The part of the map that starts at its position is handed on.
-fn object_good(m: &[u8], used: usize, version: u16, index: &[u32], t: Slot) -> bool
-    requires { ⌜ (used ≤ mapLimit) × (used ≤ length (now m)) × (used + indexPage ≤ length (now index) * indexPage) × Filled indexBlockSize indexPage used (now index) × (t .len ≡ 0 → ⊥) ⌝ }
-    ensures { λ r. ⌜ r ≡ (lenGood version (t .len) && objectGood (endsMeet indexBlockSize (now (index .entry))) (now (m .entry)) used version t) ⌝ }
-{
-    let at = t.position as usize;
-    let bytes = bytes_in(version, t.len);
-    if !bytes_in_range(bytes) {
-        return false;
-    }
-    if at < Header::SIZE {
-        return false;
-    }
-    if used < at + bytes {
-        return false;
-    }
-    if meets_block(index, IndexBlock::PAGE, IndexBlock::SIZE, at, bytes) {
-        return false;
-    }
-    header_fits(ObjectHeader::of(&m[at..]), t, bytes)
-}
-
-// Whether a slot that is not free would be good as a live one. The two comparisons stand apart for the sake of time (DECISIONS, C9).
-pub fn slot_good(m: &[u8], used: usize, version: u16, index: &[u32], t: Slot) -> bool
-    requires { ⌜ (used ≤ mapLimit) × (used ≤ length (now m)) × (used + indexPage ≤ length (now index) * indexPage) × Filled indexBlockSize indexPage used (now index) × (t .len ≡ 0 → ⊥) ⌝ }
-    ensures { λ r. ⌜ r ≡ slotGood (endsMeet indexBlockSize (now (index .entry))) (now (m .entry)) used version t ⌝ }
-{
-    if !at_most(t.left, t.right) {
-        return false;
-    }
-    if !object_good(m, used, version, index, t) {
-        return false;
-    }
-    at_most(t.bottom, t.top)
-}
-
-// Whether a slot that is not free is live and not good.
-pub fn bad_slot(m: &[u8], used: usize, version: u16, index: &[u32], t: Slot) -> bool
-    requires { ⌜ (used ≤ mapLimit) × (used ≤ length (now m)) × (used + indexPage ≤ length (now index) * indexPage) × Filled indexBlockSize indexPage used (now index) × (t .len ≡ 0 → ⊥) ⌝ }
-    ensures { λ r. ⌜ ((at : ℕ) → t ≡ slotOf (now (m .entry)) at → r ≡ badSlot (endsMeet indexBlockSize (now (index .entry))) (now (m .entry)) used version at) ⌝ }
-{
-    if t.sym == 0 {
-        return false;
-    }
-    !slot_good(m, used, version, index, t)
-}
-
 // The first free slot, by the one found before s, and whether s is free.
 fn first_free(is: bool, free: usize, s: usize) -> usize
     ensures { λ r. ⌜ r ≡ firstFree is free s ⌝ }
@@ -278,38 +198,6 @@ fn judge_slots(m: &[u8], used: usize, index: &[u32], n: usize) -> Examined
     Examined::Accepted { blocks: n, free }
 }
 
-// Whether a symbol record is good.
-fn symbol_good(m: &[u8], used: usize, index: &[u32], at: usize) -> bool
-    requires { ⌜ (at < 4294967296) × (used ≤ mapLimit) × (used ≤ length (now m)) × (used + indexPage ≤ length (now index) * indexPage) × Filled indexBlockSize indexPage used (now index) ⌝ }
-    ensures { λ r. ⌜ r ≡ symbolGood (endsMeet indexBlockSize (now (index .entry))) (now (m .entry)) used at ⌝ }
-{
-    if at < Header::SIZE {
-        return false;
-    }
-    if used < at + 2 {
-        return false;
-    }
-    let size = u16_at(m, at);
-    if !size_good(size) {
-        return false;
-    }
-    if used < at + size as usize {
-        return false;
-    }
-    !meets_block(index, IndexBlock::PAGE, IndexBlock::SIZE, at, size as usize)
-}
-
-// Whether a symbol entry that says p is used and its record is not good.
-fn bad_entry(m: &[u8], used: usize, index: &[u32], p: usize) -> bool
-    requires { ⌜ (p < 4294967296) × (used ≤ mapLimit) × (used ≤ length (now m)) × (used + indexPage ≤ length (now index) * indexPage) × Filled indexBlockSize indexPage used (now index) ⌝ }
-    ensures { λ r. ⌜ ((at : ℕ) → p ≡ u32At (now (m .entry)) at → r ≡ badEntry (endsMeet indexBlockSize (now (index .entry))) (now (m .entry)) used at) ⌝ }
-{
-    if p == 0 {
-        return false;
-    }
-    !symbol_good(m, used, index, p)
-}
-
 // 6, of one symbol block: the first entry at fault.
 fn judge_block_entries(m: &[u8], used: usize, index: &[u32], block: usize) -> Judged
     requires { ⌜ (block + symbolBlockSize ≤ used) × (used ≤ mapLimit) × (used ≤ length (now m)) × (used + indexPage ≤ length (now index) * indexPage) × Filled indexBlockSize indexPage used (now index) ⌝ }
@@ -350,42 +238,6 @@ fn judge_entries(m: &[u8], used: usize, index: &[u32], n: usize, k: usize) -> Ju
         i += 1;
     }
     Judged::Good
-}
-
-// The chain of symbol blocks, as a kind: its blocks keep off the index blocks.
-fn symbol_kind() -> Kind
-    ensures { λ r. ⌜ r ≡ symbolKind ⌝ }
-{
-    Kind {
-        head: Header::SYMBOLS,
-        size: SymbolBlock::SIZE,
-        page: SymbolBlock::PAGE,
-        first: 0,
-        first_size: 0,
-        second: 0,
-        second_size: 0,
-        other_size: IndexBlock::SIZE,
-        other_page: IndexBlock::PAGE,
-    }
-}
-
-// The chain of index blocks, as a kind: its blocks keep off setup and info. The other table is empty.
-fn index_kind(h: Header) -> Kind
-    ensures { λ r. ⌜ r ≡ indexKind h ⌝ }
-{
-    let setup = h.setup;
-    let info = h.info;
-    Kind {
-        head: Header::INDEX,
-        size: IndexBlock::SIZE,
-        page: IndexBlock::PAGE,
-        first: setup.at as usize,
-        first_size: setup.size as usize,
-        second: info.at as usize,
-        second_size: info.size as usize,
-        other_size: IndexBlock::SIZE,
-        other_page: Header::LIMIT,
-    }
 }
 
 // 6: the symbol blocks and their entries. A table for the blocks is lent, empty before.

@@ -22,9 +22,8 @@ use native.Mathlib.Decide.{ℕ-discrete}
 use native.Mathlib.Numerals.{add-one}
 use native.Mathlib.Omega.{arith}
 use lib.Count.{ones as count, ones-step, ones-le}
-use lib.Dec.{eqb}
 use lib.ListN.{length, getD, length-append}
-use borrow.Author.Tests.{eq-eqb, ne-eqb, eqb-true, eqb-false}
+use borrow.Author.Tests.{eq-eqb, ne-eqb}
 use Rattle.numbers.specs.Below.{sel}
 use Rattle.numbers.proofs.Below.{sel-yes, sel-no}
 use Rattle.bits.specs.Bits.{bit, double, from, bitsFrom, ones, onesIn, wordBits, full}

@@ -19,14 +19,14 @@ use mir.Val.{boolByte}
 use borrow.Author.Tests.{eq-eqb, ne-eqb}
 use Rattle.numbers.specs.Bytes.{u16At, u32At}
 use Rattle.numbers.specs.Below.{first, sel}
-use Rattle.numbers.proofs.Below.{First, first-is, first-none, sel-yes, sel-no, sel-length}
+use Rattle.numbers.proofs.Below.{First, first-is, first-none, sel-length}
 use Rattle.bits.specs.Bits.{bit, double, bitsFrom, onesIn, wordBits}
 use Rattle.bits.proofs.Bits.{double-turn, bits-more, bits-word, bits-moved, bits-count, sel-moved, ones-words, word-high, word-most}
-use Rattle.records.specs.declared.Slot.{Slot}
-use Rattle.records.specs.declared.Window.{Window}
-use Rattle.records.specs.declared.State.the-variants.{Live}
-use Rattle.records.specs.Slots.{slotOf, stateOf}
-use Rattle.records.specs.Windows.{meetsWindow}
+use Rattle.slots.specs.declared.Slot.{Slot}
+use Rattle.windows.specs.declared.Window.{Window}
+use Rattle.slots.specs.declared.State.the-variants.{Live}
+use Rattle.slots.specs.Slots.{slotOf, stateOf}
+use Rattle.windows.specs.Windows.{meetsWindow}
 use Rattle.records.specs.Sizes.{headerSize, indexBlockSize, mostBlocks, slotSize}
 use Rattle.records.specs.Headers.{indexHead}
 use Rattle.chain.specs.Chains.{place}
@@ -37,14 +37,14 @@ use Rattle.accept.specs.declared.Judged.the-variants.{Good, Bad}
 use Rattle.accept.specs.declared.Verdict.the-variants.{Accepted}
 use Rattle.accept.specs.declared.Opened.the-variants as opened
 use Rattle.accept.specs.Opens.{openedOf, afterOpened, Open}
-use Rattle.accept.specs.Rules.{indexRule, touches}
-use Rattle.accept.specs.Judging.{versionOf, badSlot}
+use Rattle.judge.specs.Rules.{indexRule, touches}
+use Rattle.judge.specs.Judging.{versionOf, badSlot}
 use Rattle.accept.specs.Verdicts.{unless, slotsJudged, verdict, slotsJudgedOf}
 use Rattle.accept.proofs.Looking.{Along, cells-good, cells-bad, along-start, along-inside, along-cell, along-on, along-bad, along-good}
-use Rattle.accept.proofs.Rules.{most-blocks}
+use Rattle.judge.proofs.Rules.{most-blocks}
 use Rattle.accept.proofs.Opens.{verdict-opened}
 use Rattle.accept.proofs.Firsts.{first-same, first-after}
-use Rattle.accept.proofs.Slots.{no-len, has-len}
+use Rattle.judge.proofs.States.{no-len, has-len}
 use Rattle.find.specs.Searches.{wantedAt, SlotsOf, liveIn, slotsFor, found}
 use Rattle.find.specs.Looks.{blockWords, slotFrom, liveFrom, Marked}
 

@@ -26,17 +26,17 @@ use Rattle.numbers.specs.Below.{sel}
 use Rattle.numbers.specs.Coordinates.{valueOf}
 use Rattle.numbers.proofs.Below.{never, sel-less}
 use Rattle.numbers.proofs.Bytes.{getD-sets-high, getD-sets-in}
-use Rattle.records.specs.declared.Window.{Window}
-use Rattle.records.specs.declared.State.{State}
-use Rattle.records.specs.declared.State.the-variants.{Free, Erased, Live}
-use Rattle.records.specs.Slots.{slotOf, stateOf, sameState}
-use Rattle.records.specs.Windows.{windowGood, meetsWindow}
+use Rattle.windows.specs.declared.Window.{Window}
+use Rattle.slots.specs.declared.State.{State}
+use Rattle.slots.specs.declared.State.the-variants.{Free, Erased, Live}
+use Rattle.slots.specs.Slots.{slotOf, stateOf, sameState}
+use Rattle.windows.specs.Windows.{windowGood, meetsWindow}
 use Rattle.chain.specs.Chains.{walked}
 use Rattle.chain.specs.declared.Walk.the-variants.{Blocks}
 use Rattle.accept.specs.declared.Verdict.{Verdict}
 use Rattle.accept.specs.declared.Verdict.the-variants as verdicts
-use Rattle.accept.specs.Rules.{indexRule, slotAt}
-use Rattle.accept.specs.Judging.{lengthGood}
+use Rattle.judge.specs.Rules.{indexRule, slotAt}
+use Rattle.judge.specs.Judging.{lengthGood}
 use Rattle.accept.specs.Verdicts.{headerJudged, verdict}
 use Rattle.accept.proofs.Accepting.{accepted-tells}
 use Rattle.find.specs.declared.Answer.{Answer}

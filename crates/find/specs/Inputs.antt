@@ -8,7 +8,7 @@ use mathlib.Core.List.{List}
 use lib.Dec.{leb}
 use lib.ListN.{length, drop}
 use Rattle.records.specs.Sizes.{windowSize}
-use Rattle.records.specs.Windows.{windowOf}
+use Rattle.windows.specs.Windows.{windowOf}
 use Rattle.find.specs.declared.Answer.{Answer}
 use Rattle.find.specs.declared.Answer.the-variants.{Refused}
 use Rattle.find.specs.Searches.{answerOf, listAfter}

@@ -11,8 +11,8 @@ use mathlib.Core.List.{List}
 use lib.ListN.{getD}
 use Rattle.bits.specs.Bits.{bitsFrom, wordBits}
 use Rattle.records.specs.Sizes.{slotSize}
-use Rattle.records.specs.declared.Window.{Window}
-use Rattle.records.specs.declared.State.the-variants.{Live}
+use Rattle.windows.specs.declared.Window.{Window}
+use Rattle.slots.specs.declared.State.the-variants.{Live}
 use Rattle.find.specs.Searches.{wantedAt, liveIn}
 
 abbrev pub blockWords : ℕ

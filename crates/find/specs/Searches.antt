@@ -20,16 +20,16 @@ use lib.ListN.{length, getD}
 use lib.Seq.{sets}
 use Rattle.numbers.specs.Below.{sel}
 use Rattle.records.specs.Sizes.{slotSize}
-use Rattle.records.specs.declared.Window.{Window}
-use Rattle.records.specs.declared.State.{State}
-use Rattle.records.specs.declared.State.the-variants.{Live}
-use Rattle.records.specs.Slots.{slotOf, stateOf, sameState}
-use Rattle.records.specs.Windows.{windowGood, meetsWindow}
+use Rattle.windows.specs.declared.Window.{Window}
+use Rattle.slots.specs.declared.State.{State}
+use Rattle.slots.specs.declared.State.the-variants.{Live}
+use Rattle.slots.specs.Slots.{slotOf, stateOf, sameState}
+use Rattle.windows.specs.Windows.{windowGood, meetsWindow}
 use Rattle.chain.specs.Cells.{cellIn}
 use Rattle.accept.specs.declared.Verdict.{Verdict}
 use Rattle.accept.specs.declared.Verdict.the-variants as verdicts
-use Rattle.accept.specs.Rules.{slotAt}
-use Rattle.accept.specs.Judging.{lengthGood}
+use Rattle.judge.specs.Rules.{slotAt}
+use Rattle.judge.specs.Judging.{lengthGood}
 use Rattle.accept.specs.Verdicts.{verdict}
 use Rattle.find.specs.declared.Answer.{Answer}
 use Rattle.find.specs.declared.Answer.the-variants.{Found, Short, Refused}

@@ -26,10 +26,10 @@ use Rattle.numbers.specs.Below.{any, first}
 use Rattle.records.specs.declared.JournalRecord.{JournalRecord}
 use Rattle.records.specs.Sizes.{slotSize, mapLimit, journalRecordSize, journalLimit}
 use Rattle.records.specs.Headers.{indexHead}
-use Rattle.records.specs.Slots.{slotOf}
+use Rattle.slots.specs.Slots.{slotOf}
 use Rattle.records.specs.Journals.{recordOf, recordBytes, shapeGood, isUnused}
 use Rattle.chain.specs.Cells.{Ordered}
-use Rattle.accept.specs.Rules.{slotAt}
+use Rattle.judge.specs.Rules.{slotAt}
 use Rattle.journal.specs.declared.Look.{Look}
 use Rattle.journal.specs.declared.Look.the-variants.{Malformed, Held, New}
 

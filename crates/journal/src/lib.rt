@@ -1,12 +1,12 @@
 // A journal of done edits: whether it is well formed for a map, the edit number looked up, the next record. Nothing here knows how a map is edited.
-use records::IndexBlock;
 use records::JournalRecord;
-use records::Slot;
+use slots::IndexBlock;
+use slots::Slot;
 ghost use mathlib.Core.Path.{_≡_};
 ghost use mathlib.Core.Bool.{not, _&&_};
 ghost use mathlib.Core.List.{List};
 ghost use Prim.Native.Nat.{ℕ, _+_, _*_, _%_, _≤_, _<_};
-ghost use lib.Dec.{eqb, ltb};
+ghost use lib.Dec.{ltb};
 ghost use lib.ListN.{length};
 ghost use Rattle.numbers.specs.Below.{any};
 ghost use Rattle.records.specs.Sizes.{journalRecordSize, journalLimit};
@@ -14,7 +14,7 @@ ghost use Rattle.records.specs.Headers.{indexHead};
 ghost use Rattle.records.specs.Journals.{isUnused};
 ghost use Rattle.chain.specs.Cells.{Ordered};
 ghost use Rattle.chain.specs.Tables.{Empty};
-ghost use Rattle.accept.specs.Rules.{slotAt};
+ghost use Rattle.judge.specs.Rules.{slotAt};
 ghost use Rattle.journal.specs.Journals.{recordIn, total, inUse, slotUsed, isFull, appended, looked, Reach};
 ghost use Rattle.journal.specs.Passes.{bitsOf, Linked, Comes, judged};
 

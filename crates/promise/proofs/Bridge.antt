@@ -13,25 +13,27 @@ use borrow.Author.Tests.{eqb-true, eq-eqb, ne-eqb}
 use Rattle.numbers.specs.Bytes.{u16At}
 use Rattle.numbers.proofs.Bytes.{leAt-drop}
 use Rattle.numbers.proofs.Below.{never}
-use Rattle.records.specs.declared.Slot.{Slot}
-use Rattle.records.specs.declared.State.the-variants.{Free, Live}
-use Rattle.records.specs.Slots.{slotBytes, stateOf, bytesIn}
-use Rattle.records.specs.Objects.{objectOf}
+use Rattle.slots.specs.declared.Slot.{Slot}
+use Rattle.slots.specs.declared.State.the-variants.{Free, Live}
+use Rattle.slots.specs.Slots.{slotBytes, stateOf, bytesIn}
+use Rattle.slots.specs.Objects.{objectOf}
 use Rattle.records.specs.Journals.{recordFor}
-use Rattle.accept.specs.Rules.{slotAt, touches}
-use Rattle.accept.specs.Judging.{versionOf, headerFits}
-use Rattle.accept.specs.declared.Verdict.the-variants as verdicts
+use Rattle.judge.specs.Rules.{slotAt, touches}
+use Rattle.judge.specs.Judging.{versionOf, headerFits}
 use Rattle.accept.proofs.Accepting.{Holds, accepted-is}
-use Rattle.accept.proofs.Telling.{and-true, GoodSlot}
-use Rattle.accept.proofs.Frame.{good-kept, version-same}
-use Rattle.accept.proofs.Writes.{slot-lies}
+use Rattle.judge.proofs.Telling.{and-true, GoodSlot}
+use Rattle.frame.proofs.Frame.{good-kept, version-same}
+use Rattle.frame.proofs.Writes.{slot-lies}
 use Rattle.journal.specs.Journals.{looked}
 use Rattle.journal.proofs.Journals.{room-of, appended-new, appended-holds, appended-holder}
 use Rattle.journal.proofs.Records.{not-full, shape-tells}
 use Rattle.edit.specs.declared.Answer.the-variants.{Before}
-use Rattle.edit.specs.Slots.{slotIn, hasState, resym, objectSym}
-use Rattle.edit.specs.Edits.{startOf, repeatChange, changed}
-use Rattle.edit.proofs.Syms.{has-tells, len-some, same-live, state-unmarked}
+use Rattle.accept.specs.Slots.{slotIn}
+use Rattle.change.specs.Slots.{hasState, resym, objectSym}
+use Rattle.edit.specs.Edits.{startOf}
+use Rattle.change.specs.Changes.{repeatChange, changed}
+use Rattle.change.proofs.Syms.{has-tells}
+use Rattle.judge.proofs.States.{len-some, same-live, state-unmarked}
 use Rattle.promise.specs.Runs.{State, Call, add, remove, reinstate, search, edited, outcome, step, run, saysDone, isDone, recordOf, blocksIn, blocksOf, isLiveIn, Content, contentOf, Good, Sent, AllSent}
 use Rattle.promise.specs.Promises.{Own, ByOne, EditByEdit, SlotBytes, slotPart, objectPart, ContentIsBytes, ContentStays, Removes, NoneRemoves, Footbridge}
 use Rattle.promise.proofs.Bytes.{part-slot}

@@ -15,18 +15,19 @@ use lib.Seq.{sets, getD-set-same, getD-set-other, set-out, getD-append-add, drop
 use borrow.Author.Tests.{eqb-true}
 use Rattle.numbers.specs.Bytes.{Bytes, leAt, u32At, bytesOf}
 use Rattle.numbers.proofs.Coordinates.{lt-or-ge}
-use Rattle.records.specs.declared.Slot.{Slot}
+use Rattle.slots.specs.declared.Slot.{Slot}
 use Rattle.records.specs.declared.JournalRecord.{JournalRecord}
-use Rattle.records.specs.Slots.{slotOf, slotBytes}
+use Rattle.slots.specs.Slots.{slotOf, slotBytes}
 use Rattle.records.specs.Journals.{recordOf, recordBytes, isUnused}
 use Rattle.chain.proofs.Tables.{zeros}
 use Rattle.journal.specs.Journals.{appended}
 use Rattle.chain.specs.Chains.{place}
-use Rattle.accept.specs.Rules.{slotAt}
-use Rattle.accept.proofs.Telling.{and-true}
-use Rattle.edit.specs.Slots.{withSym, freeSlot}
-use Rattle.edit.specs.Objects.{blockFor}
-use Rattle.edit.specs.Edits.{isFree, slotAdded, inFree, inBlock, addedMap}
+use Rattle.judge.specs.Rules.{slotAt}
+use Rattle.judge.proofs.Telling.{and-true}
+use Rattle.change.specs.Slots.{withSym}
+use Rattle.accept.specs.Slots.{freeSlot}
+use Rattle.add.specs.Objects.{blockFor}
+use Rattle.add.specs.Adds.{isFree, slotAdded, inFree, inBlock, addedMap}
 
 byte-set : (xs : List ℕ) (i a : ℕ) → Bytes xs → a < 256 → Bytes (set xs i a)
 byte-set xs i a b l j =

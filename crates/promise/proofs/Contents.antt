@@ -12,22 +12,24 @@ use borrow.Author.Tests.{lt-ltb, le-ltb, not-true, eqb-false}
 use Rattle.numbers.specs.Bytes.{Bytes}
 use Rattle.numbers.proofs.Below.{never}
 use Rattle.numbers.proofs.Coordinates.{lt-or-ge}
-use Rattle.records.specs.declared.Slot.{Slot}
-use Rattle.records.specs.declared.State.{State}
-use Rattle.records.specs.declared.State.the-variants.{Free, Erased, Live}
-use Rattle.records.specs.Slots.{slotOf, stateOf, sameState, bytesIn}
-use Rattle.records.specs.Objects.{objectOf}
-use Rattle.accept.specs.Rules.{slotAt, touches}
-use Rattle.accept.specs.Judging.{versionOf, isLive}
+use Rattle.slots.specs.declared.Slot.{Slot}
+use Rattle.slots.specs.declared.State.{State}
+use Rattle.slots.specs.declared.State.the-variants.{Free, Erased, Live}
+use Rattle.slots.specs.Slots.{slotOf, stateOf, sameState, bytesIn}
+use Rattle.slots.specs.Objects.{objectOf}
+use Rattle.judge.specs.Rules.{slotAt, touches}
+use Rattle.judge.specs.Judging.{versionOf, isLive}
 use Rattle.accept.specs.Verdicts.{verdict}
 use Rattle.accept.proofs.Accepting.{Holds}
-use Rattle.accept.proofs.Telling.{and-true, GoodSlot, slot-tells, bad-tells}
-use Rattle.accept.proofs.Frame.{Change, touch-part, version-same}
-use Rattle.edit.specs.Slots.{slotIn, hasState, resym, withSym, objectSym, isAccepted, canReinstate}
-use Rattle.edit.specs.Objects.{pairsIn, slotFor, offeredGood}
-use Rattle.edit.specs.Edits.{slotAdded}
-use Rattle.edit.proofs.Syms.{has-tells, same-live, state-live, state-unmarked, state-empty, len-some, accepted-good}
-use Rattle.edit.proofs.Objects.{Offered, offered-tells, len-bytes}
+use Rattle.judge.proofs.Telling.{and-true, GoodSlot, slot-tells, bad-tells}
+use Rattle.frame.proofs.Frame.{Change, touch-part, version-same}
+use Rattle.accept.specs.Slots.{slotIn}
+use Rattle.change.specs.Slots.{hasState, resym, withSym, objectSym, isAccepted, canReinstate}
+use Rattle.add.specs.Objects.{pairsIn, slotFor, offeredGood}
+use Rattle.add.specs.Adds.{slotAdded}
+use Rattle.change.proofs.Syms.{has-tells, accepted-good}
+use Rattle.judge.proofs.States.{same-live, state-live, state-unmarked, state-empty, len-some}
+use Rattle.add.proofs.Objects.{Offered, offered-tells, len-bytes}
 use Rattle.promise.specs.Runs.{contentOf}
 use Rattle.promise.proofs.Moves.{Moved, object-sym-fits}
 

@@ -8,16 +8,17 @@ use lib.ListN.{length, drop}
 use lib.Seq.{take-append-seam}
 use borrow.Author.Tests.{lt-ltb}
 use Rattle.numbers.proofs.Coordinates.{lt-or-ge}
-use Rattle.records.specs.declared.Window.{Window}
-use Rattle.records.specs.declared.State.the-variants.{Live}
-use Rattle.records.specs.Slots.{slotOf, stateOf, sameState}
-use Rattle.records.specs.Windows.{meetsWindow}
-use Rattle.accept.specs.Rules.{slotAt}
+use Rattle.windows.specs.declared.Window.{Window}
+use Rattle.slots.specs.declared.State.the-variants.{Live}
+use Rattle.slots.specs.Slots.{slotOf, stateOf, sameState}
+use Rattle.windows.specs.Windows.{meetsWindow}
+use Rattle.judge.specs.Rules.{slotAt}
 use Rattle.find.specs.declared.Answer.{Answer}
 use Rattle.find.specs.Searches.{wantedAt, found, answerOf, listFor, listAfter, In}
 use Rattle.find.proofs.Searches.{in-list, ascending, answer-window, answer-short, answer-found, answers, list-found}
-use Rattle.edit.specs.Slots.{slotIn, hasState}
-use Rattle.edit.proofs.Syms.{has-tells}
+use Rattle.accept.specs.Slots.{slotIn}
+use Rattle.change.specs.Slots.{hasState}
+use Rattle.change.proofs.Syms.{has-tells}
 use Rattle.promise.specs.Runs.{Call, add, searched, step, isLiveIn, contentOf}
 use Rattle.promise.specs.Promises.{ByOne, SearchSays, SearchFinds, AddedIsFound}
 use Rattle.promise.proofs.Keeping.{step-good}

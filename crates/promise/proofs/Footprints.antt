@@ -7,13 +7,13 @@ use lib.ListN.{length, getD, drop}
 use lib.Seq.{getD-drop}
 use Rattle.numbers.specs.Bytes.{leAt, u16At, u32At}
 use Rattle.numbers.proofs.Bytes.{leAt-cong}
-use Rattle.records.specs.declared.Slot.{Slot}
+use Rattle.slots.specs.declared.Slot.{Slot}
 use Rattle.records.specs.Sizes.{mapLimit, indexBlockSize, slotSize, symbolBlockSize, entrySize}
-use Rattle.records.specs.Slots.{slotOf}
-use Rattle.records.specs.Objects.{objectOf}
+use Rattle.slots.specs.Slots.{slotOf}
+use Rattle.slots.specs.Objects.{objectOf}
 use Rattle.chain.specs.Chains.{Links, end, link}
 use Rattle.chain.specs.Cells.{cellIn}
-use Rattle.accept.specs.Judging.{versionOf}
+use Rattle.judge.specs.Judging.{versionOf}
 use Rattle.accept.specs.Meets.{Inside, Chain, cellOf, GoodRecord, GoodLive, Meets}
 use Rattle.accept.proofs.Meets.{accepted-exactly}
 use Rattle.promise.specs.Footprints.{Agree, Footprint, DependsOnly}

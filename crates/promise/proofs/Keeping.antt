@@ -8,26 +8,27 @@ use native.Mathlib.Omega.{arith}
 use lib.ListN.{length, getD}
 use Rattle.numbers.specs.Bytes.{Bytes}
 use Rattle.numbers.proofs.Below.{never}
-use Rattle.records.specs.declared.Window.{Window}
+use Rattle.windows.specs.declared.Window.{Window}
 use Rattle.records.specs.Journals.{recordFor, shapeGood}
 use Rattle.records.proofs.Journals.{RecordFits}
-use Rattle.accept.specs.declared.Verdict.the-variants as verdicts
 use Rattle.accept.proofs.Accepting.{Holds, accepted-tells, accepted-is}
-use Rattle.accept.proofs.Writes.{pass-of}
+use Rattle.frame.proofs.Writes.{pass-of}
 use Rattle.chain.proofs.Chains.{few}
 use Rattle.journal.specs.Journals.{wellFormed, isHeld, isFull, appended, slotUsed}
 use Rattle.journal.proofs.Journals.{appended-well}
 use Rattle.journal.proofs.Records.{shape-is}
 use Rattle.edit.specs.declared.Answer.{Answer}
 use Rattle.edit.specs.declared.Answer.the-variants.{Done, Before, Refused}
-use Rattle.records.specs.declared.State.the-variants.{Erased, Live}
-use Rattle.accept.specs.Judging.{versionOf}
-use Rattle.accept.proofs.Telling.{and-true}
-use Rattle.edit.specs.Slots.{slotIn, hasState, resym, withSym, objectSym, canReinstate, allowedFor, symFor, freeSlot}
-use Rattle.edit.specs.Objects.{offeredGood}
-use Rattle.edit.proofs.Syms.{has-tells}
+use Rattle.slots.specs.declared.State.the-variants.{Erased, Live}
+use Rattle.judge.specs.Judging.{versionOf}
+use Rattle.judge.proofs.Telling.{and-true}
+use Rattle.accept.specs.Slots.{slotIn, freeSlot}
+use Rattle.change.specs.Slots.{hasState, resym, withSym, objectSym, canReinstate, allowedFor, symFor}
+use Rattle.add.specs.Objects.{offeredGood}
+use Rattle.change.proofs.Syms.{has-tells}
 use Rattle.edit.specs.Edits as edits
-use Rattle.edit.specs.Edits.{changed, added, newLength, addedMap, slotAdded}
+use Rattle.change.specs.Changes.{changed}
+use Rattle.add.specs.Adds.{added, newLength, addedMap, slotAdded}
 use Rattle.promise.specs.Runs.{State, Call, add, remove, reinstate, search, edited, Outcome, outcome, ofEdit, lengthAfter, next, step, saysDone, isDone, recordOf, Map, applied, Good, Sent}
 use Rattle.promise.specs.Promises.{mapOf}
 use Rattle.promise.proofs.Bytes.{appended-bytes, sym-bytes, added-bytes}

@@ -14,25 +14,27 @@ use Rattle.numbers.specs.Bytes.{Bytes}
 use Rattle.numbers.proofs.Bytes.{leAt-lt}
 use Rattle.numbers.specs.Below.{first}
 use Rattle.numbers.proofs.Below.{never, first-law}
-use Rattle.records.specs.declared.Slot.{Slot}
-use Rattle.records.specs.declared.State.the-variants.{Free, Erased, Live}
-use Rattle.records.specs.Slots.{slotOf, stateOf, sameState, lenOf}
+use Rattle.slots.specs.declared.Slot.{Slot}
+use Rattle.slots.specs.declared.State.the-variants.{Free, Erased, Live}
+use Rattle.slots.specs.Slots.{slotOf, stateOf, sameState, lenOf}
 use Rattle.accept.specs.declared.Verdict.{Verdict}
 use Rattle.accept.specs.declared.Verdict.the-variants as verdicts
-use Rattle.accept.specs.Rules.{slotAt}
-use Rattle.accept.specs.Judging.{versionOf}
+use Rattle.judge.specs.Rules.{slotAt}
+use Rattle.judge.specs.Judging.{versionOf}
 use Rattle.accept.specs.Verdicts.{verdict}
 use Rattle.accept.proofs.Accepting.{Holds, accepted-tells, blocks-one}
-use Rattle.accept.proofs.Telling.{and-true}
-use Rattle.accept.proofs.Frame.{Change}
+use Rattle.judge.proofs.Telling.{and-true}
+use Rattle.frame.proofs.Frame.{Change}
 use Rattle.journal.specs.Journals.{slotUsed}
 use Rattle.journal.proofs.Journals.{KeepsUse}
-use Rattle.edit.specs.Slots.{slotIn, hasState, resym, withSym, objectSym, isAccepted, canReinstate, freeSlot}
-use Rattle.edit.specs.Objects.{pairsIn, slotFor, offeredGood}
-use Rattle.edit.specs.Edits.{isFree, slotAdded, inFree, inBlock, newLength, addedMap}
-use Rattle.edit.proofs.Syms.{has-tells, len-some, sym-change, sym-place, sym-other, sym-slot, sym-holds}
-use Rattle.edit.proofs.Objects.{Offered, offered-tells, pairs-some}
-use Rattle.edit.proofs.Adds.{Grown, in-slot, in-block}
+use Rattle.accept.specs.Slots.{slotIn, freeSlot}
+use Rattle.change.specs.Slots.{hasState, resym, withSym, objectSym, isAccepted, canReinstate}
+use Rattle.add.specs.Objects.{pairsIn, slotFor, offeredGood}
+use Rattle.add.specs.Adds.{isFree, slotAdded, inFree, inBlock, newLength, addedMap}
+use Rattle.change.proofs.Syms.{has-tells, sym-change, sym-place, sym-other, sym-slot, sym-holds}
+use Rattle.judge.proofs.States.{len-some}
+use Rattle.add.proofs.Objects.{Offered, offered-tells, pairs-some}
+use Rattle.add.proofs.Adds.{Grown, in-slot, in-block}
 
 pub record Moved (m m′ : List ℕ) (used used′ n n′ s : ℕ) : Type 0 where
   pub change : Change m m′ used used′ n n′

@@ -11,10 +11,10 @@ use Rattle.records.specs.declared.JournalRecord.{JournalRecord}
 use Rattle.records.specs.Headers.{indexHead}
 use Rattle.chain.specs.Chains.{block}
 use Rattle.chain.proofs.Chains.{disjoint, few, walked-end}
-use Rattle.accept.specs.Rules.{indexRule}
+use Rattle.judge.specs.Rules.{indexRule}
 use Rattle.accept.specs.Verdicts.{verdict}
 use Rattle.accept.proofs.Accepting.{Holds, accepted-tells, accepted-is}
-use Rattle.accept.proofs.Writes.{pass-of}
+use Rattle.frame.proofs.Writes.{pass-of}
 use Rattle.find.specs.Searches.{In}
 use Rattle.journal.specs.Journals.{isHeld, holder, recordIn, recordsOf}
 use Rattle.journal.proofs.Records.{length-recordsOf}

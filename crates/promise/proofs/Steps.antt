@@ -10,9 +10,9 @@ use Rattle.numbers.proofs.Below.{never}
 use Rattle.records.specs.Journals.{recordFor}
 use Rattle.accept.specs.declared.Verdict.{Verdict}
 use Rattle.accept.specs.declared.Verdict.the-variants as verdicts
-use Rattle.accept.specs.Judging.{versionOf}
+use Rattle.judge.specs.Judging.{versionOf}
 use Rattle.accept.specs.Verdicts.{verdict}
-use Rattle.accept.proofs.Telling.{and-true}
+use Rattle.judge.proofs.Telling.{and-true}
 use borrow.Author.Tests.{leb-true, le-leb, ne-eqb}
 use Rattle.journal.specs.declared.Look.{Look}
 use Rattle.journal.specs.declared.Look.the-variants.{Malformed, Held, New}
@@ -21,9 +21,12 @@ use Rattle.journal.proofs.Journals.{looked-new}
 use Rattle.edit.specs.declared.Answer.{Answer}
 use Rattle.edit.specs.declared.Answer.the-variants.{Done, Before, Refused}
 use Rattle.edit.specs.declared.Start.the-variants as starts
-use Rattle.edit.specs.Slots.{slotIn, withSym, allowedFor, symFor, freeSlot}
-use Rattle.edit.specs.Objects.{offeredGood, isObject}
-use Rattle.edit.specs.Edits.{Outcome, saying, after, afterLook, startOf, repeatChange, freshChange, changed, newLength, addedMap, repeatAdd, freshAdd, added}
+use Rattle.accept.specs.Slots.{slotIn, freeSlot}
+use Rattle.change.specs.Slots.{withSym, allowedFor, symFor}
+use Rattle.add.specs.Objects.{offeredGood, isObject}
+use Rattle.edit.specs.Edits.{Outcome, saying, after, afterLook, startOf}
+use Rattle.change.specs.Changes.{repeatChange, freshChange, changed}
+use Rattle.add.specs.Adds.{newLength, addedMap, repeatAdd, freshAdd, added}
 use Rattle.promise.specs.Runs.{edited, saysDone}
 
 -- ---- an edit's outcome by cases

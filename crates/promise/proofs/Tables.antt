@@ -12,27 +12,28 @@ use Rattle.numbers.specs.Bytes.{Bytes, leAt, bytesOf}
 use Rattle.numbers.specs.Below.{any, first}
 use Rattle.numbers.specs.Coordinates.{signed, valueOf, unmarked}
 use Rattle.numbers.proofs.Below.{first-is}
-use Rattle.records.specs.declared.State.the-variants.{Free}
+use Rattle.slots.specs.declared.State.the-variants.{Free}
 use Rattle.records.specs.declared.JournalRecord.{JournalRecord}
 use Rattle.records.specs.Journals.{recordOf, recordBytes, recordFor, isUnused, shapeGood, kindGood}
 use Rattle.records.specs.Headers.{headerOf, pairGood}
 use Rattle.records.proofs.Journals.{RecordFits}
-use Rattle.records.specs.Slots.{stateOf, sameState, lenOf}
-use Rattle.records.specs.Objects.{objectOf, typeGood, xOf, yOf, coverTo, withoutMarks, rectangleOf}
-use Rattle.records.specs.Windows.{meetsWindow}
+use Rattle.slots.specs.Slots.{stateOf, sameState, lenOf}
+use Rattle.slots.specs.Objects.{objectOf, typeGood}
+use Rattle.windows.specs.Rectangles.{xOf, yOf, coverTo, withoutMarks, rectangleOf}
+use Rattle.windows.specs.Windows.{meetsWindow}
 use Rattle.chain.specs.Chains.{place, block, stops, taken, walked}
 use Rattle.accept.specs.declared.Verdict.the-variants.{Accepted}
-use Rattle.accept.specs.Judging.{versionOf, lengthGood, partGood}
+use Rattle.judge.specs.Judging.{versionOf, lengthGood, partGood}
 use Rattle.accept.specs.Verdicts.{cellsJudged, fieldsJudged, headerJudged, verdict, afterIndexOf, entriesJudgedOf, slotsJudgedOf, symbolsJudgedOf}
 use Rattle.accept.proofs.Accepting.{accepted-tells, accepted-is}
-use Rattle.accept.proofs.Frame.{version-same}
+use Rattle.frame.proofs.Frame.{version-same}
 use Rattle.journal.specs.Journals.{recordIn, inUse, badRecord, wellFormed, holder, isHeld, isFull, appended}
 use Rattle.journal.proofs.Journals.{appended-well}
 use Rattle.edit.specs.declared.Answer.the-variants.{Done}
-use Rattle.edit.specs.Slots.{slotIn, freeSlot}
-use Rattle.edit.specs.Objects.{offeredGood, slotFor}
-use Rattle.edit.specs.Edits.{newLength, addedMap, inBlock, added}
-use Rattle.edit.proofs.Adds.{Grown}
+use Rattle.accept.specs.Slots.{slotIn, freeSlot}
+use Rattle.add.specs.Objects.{offeredGood, slotFor}
+use Rattle.add.specs.Adds.{newLength, addedMap, inBlock, added}
+use Rattle.add.proofs.Adds.{Grown}
 use Rattle.promise.specs.Tables.{empty7, pointObject, pointSlot, emptyJournal, firstAdd, secondAdd, Table}
 use Rattle.promise.proofs.Bytes.{All, then, bytes-cons, bytes-nil, zero-bytes}
 use Rattle.promise.proofs.Steps.{add-done}

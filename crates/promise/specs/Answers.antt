@@ -13,7 +13,7 @@ use mathlib.Core.List.{List}
 use lib.IntN.{ℤ}
 use lib.ListN.{length}
 use denote.Ref.{RefT, now}
-use Rattle.records.specs.declared.Window.{Window}
+use Rattle.windows.specs.declared.Window.{Window}
 use Rattle.accept.specs.declared.Verdict.{Verdict}
 use Rattle.accept.specs.Verdicts as verdicts
 use Rattle.accept.specs.Verdicts.{verdict}
@@ -23,7 +23,9 @@ use Rattle.find.specs.Searches.{answerOf, listAfter, countOf, blocksOf, checked
 use Rattle.find.specs.Inputs.{inputAnswer, inputList}
 use Rattle.view.specs.declared.MapView.{MapView}
 use Rattle.edit.specs.declared.Answer as edit
-use Rattle.edit.specs.Edits.{Outcome, added, removed, reinstated, numberOf, placeOf, beforeOf, slotNo, lengthOf}
+use Rattle.edit.specs.Edits.{Outcome, numberOf, placeOf, beforeOf, slotNo, lengthOf}
+use Rattle.add.specs.Adds.{added}
+use Rattle.change.specs.Changes.{removed, reinstated}
 use Rattle.taffrail.specs.Calls.{windowFrom, Wrote}
 
 abbrev pub One : {A : Type 0} → (A → Type 0) → Type 0

@@ -11,10 +11,10 @@ use lib.ListN.{length, getD}
 use Rattle.numbers.specs.Bytes.{u32At}
 use Rattle.records.specs.Sizes.{headerSize, mapLimit, indexBlockSize, slotSize, symbolBlockSize, entrySize}
 use Rattle.records.specs.Headers.{indexHead}
-use Rattle.records.specs.Slots.{slotOf, stateOf}
+use Rattle.slots.specs.Slots.{slotOf, stateOf}
 use Rattle.chain.specs.Chains.{Links}
 use Rattle.accept.specs.declared.Verdict.the-variants.{Accepted}
-use Rattle.accept.specs.Judging.{isLive}
+use Rattle.judge.specs.Judging.{isLive}
 use Rattle.accept.specs.Verdicts.{verdict}
 use Rattle.accept.specs.Meets.{Meets, cellOf}
 

@@ -9,21 +9,22 @@ use mathlib.Core.List.{List, [], _∷_, _++_, map}
 use lib.ListN.{length, getD, take, drop}
 use Rattle.numbers.specs.Bytes.{Bytes}
 use Rattle.numbers.specs.Ranges.{share}
-use Rattle.records.specs.declared.Window.{Window}
+use Rattle.windows.specs.declared.Window.{Window}
 use Rattle.records.specs.declared.JournalRecord.{JournalRecord}
-use Rattle.records.specs.Windows.{windowGood, meetsWindow}
-use Rattle.records.specs.Slots.{slotOf, slotBytes, bytesIn}
+use Rattle.windows.specs.Windows.{windowGood, meetsWindow}
+use Rattle.slots.specs.Slots.{slotOf, slotBytes, bytesIn}
 use Rattle.records.specs.Sizes.{headerSize, indexBlockSize, slotSize, journalRecordSize}
 use Rattle.records.specs.Headers.{indexHead}
 use Rattle.chain.specs.Chains.{block}
-use Rattle.accept.specs.Rules.{slotAt}
-use Rattle.accept.specs.Judging.{versionOf}
+use Rattle.judge.specs.Rules.{slotAt}
+use Rattle.judge.specs.Judging.{versionOf}
 use Rattle.find.specs.declared.Answer.the-variants.{Found, Short, Refused}
 use Rattle.find.specs.Searches.{In}
 use Rattle.journal.specs.Journals.{isHeld, recordsOf}
 use Rattle.edit.specs.declared.Answer.the-variants.{Before}
-use Rattle.edit.specs.Slots.{slotIn, resym, objectSym}
-use Rattle.edit.specs.Edits.{slotAdded}
+use Rattle.accept.specs.Slots.{slotIn}
+use Rattle.change.specs.Slots.{resym, objectSym}
+use Rattle.add.specs.Adds.{slotAdded}
 use Rattle.promise.specs.Runs.{State, Call, add, remove, reinstate, search, Said, edited, searched, outcome, step, run, slotSaid, isDone, doneIn, recordsIn, blocksIn, Map, appliedAll, isLiveIn, contentOf, Good, Sent, AllSent}
 
 -- ---- "after any run of adds, removals, reinstatements and searches, refused and repeated ones among them, the map is accepted"; and the journal is well

@@ -21,24 +21,27 @@ use mathlib.Core.List.{List, [], _∷_}
 use mathlib.Core.Path.{_≡_}
 use lib.ListN.{length, take, drop}
 use Rattle.numbers.specs.Bytes.{Bytes}
-use Rattle.records.specs.declared.Slot.{Slot}
-use Rattle.records.specs.declared.State.the-variants.{Live}
+use Rattle.slots.specs.declared.Slot.{Slot}
+use Rattle.slots.specs.declared.State.the-variants.{Live}
 use Rattle.records.specs.declared.JournalRecord.{JournalRecord}
-use Rattle.records.specs.declared.Window.{Window}
-use Rattle.records.specs.Slots.{bytesIn}
+use Rattle.windows.specs.declared.Window.{Window}
+use Rattle.slots.specs.Slots.{bytesIn}
 use Rattle.records.specs.Journals.{recordFor}
 use Rattle.accept.specs.declared.Verdict.{Verdict}
 use Rattle.accept.specs.declared.Verdict.the-variants as verdicts
-use Rattle.accept.specs.Judging.{versionOf}
+use Rattle.judge.specs.Judging.{versionOf}
 use Rattle.accept.specs.Verdicts.{verdict}
 use Rattle.find.specs.declared.Answer as find
 use Rattle.find.specs.Searches.{answerOf, listAfter}
 use Rattle.journal.specs.Journals.{wellFormed}
 use Rattle.edit.specs.declared.Answer as edit
 use Rattle.edit.specs.declared.Answer.the-variants.{Done, Before, Refused}
-use Rattle.edit.specs.Slots.{slotIn, hasState, withSym, objectSym}
+use Rattle.accept.specs.Slots.{slotIn}
+use Rattle.change.specs.Slots.{hasState, withSym, objectSym}
 use Rattle.edit.specs.Edits as edits
-use Rattle.edit.specs.Edits.{added, removed, reinstated, addedMap, newLength, slotNo}
+use Rattle.add.specs.Adds.{added, addedMap, newLength}
+use Rattle.change.specs.Changes.{removed, reinstated}
+use Rattle.edit.specs.Edits.{slotNo}
 
 pub record State : Type 0 where
   pub map : List ℕ

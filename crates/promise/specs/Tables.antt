@@ -11,15 +11,16 @@ use mathlib.Core.Path.{_≡_}
 use lib.IntN.{pos, negsuc}
 use lib.ListN.{length, replicate}
 use Rattle.numbers.specs.Coordinates.{valueOf}
-use Rattle.records.specs.declared.Slot.{Slot}
-use Rattle.records.specs.declared.Window.{Window}
-use Rattle.records.specs.Windows.{meetsWindow}
+use Rattle.slots.specs.declared.Slot.{Slot}
+use Rattle.windows.specs.declared.Window.{Window}
+use Rattle.windows.specs.Windows.{meetsWindow}
 use Rattle.accept.specs.declared.Verdict.the-variants.{Accepted}
-use Rattle.accept.specs.Judging.{versionOf}
+use Rattle.judge.specs.Judging.{versionOf}
 use Rattle.accept.specs.Verdicts.{verdict}
-use Rattle.edit.specs.Objects.{slotFor}
+use Rattle.add.specs.Objects.{slotFor}
 use Rattle.edit.specs.declared.Answer.the-variants.{Done}
-use Rattle.edit.specs.Edits.{Outcome, newLength, addedMap, added}
+use Rattle.edit.specs.Edits.{Outcome}
+use Rattle.add.specs.Adds.{newLength, addedMap, added}
 
 abbrev pub empty7 : List ℕ
 empty7 = 173 ∷ 12 ∷ 7 ∷ 0 ∷ 7 ∷ 0 ∷ replicate 42 0

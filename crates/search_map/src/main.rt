@@ -5,9 +5,9 @@ use libc::STDIN_FILENO;
 use libc::STDOUT_FILENO;
 use numbers::u32_at;
 use records::Header;
-use records::IndexBlock;
-use records::Slot;
-use records::Window;
+use slots::IndexBlock;
+use slots::Slot;
+use windows::Window;
 ghost use Prim.Native.Nat.{_<_};
 
 // A word, a number and a newline.

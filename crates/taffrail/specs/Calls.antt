@@ -4,7 +4,7 @@
 use Prim.Native.Nat.{ℕ}
 use mathlib.Core.Path.{_≡_}
 use lib.IntN.{ℤ}
-use Rattle.records.specs.declared.Window.{Window}
+use Rattle.windows.specs.declared.Window.{Window}
 use Rattle.edit.specs.declared.Answer.{Answer}
 use Rattle.edit.specs.Edits.{numberOf, placeOf, beforeOf, slotNo, lengthOf}
 

@@ -1,13 +1,15 @@
 // The C interface. A slice passes as a pointer and then its length, a `&mut u32` as a pointer. Every call takes any bytes and numbers at all, returns
 // document 01's number, and writes every out parameter, on a refusal too. hosts/include/taffrail.h is its declaration for C.
-use records::Window;
+use windows::Window;
 ghost use mathlib.Core.Path.{_≡_};
 ghost use lib.ListN.{length};
 ghost use Rattle.accept.specs.Verdicts.{verdict};
 ghost use Rattle.accept.specs.Verdicts as verdicts;
 ghost use Rattle.find.specs.Searches.{answerOf, listAfter, countOf, blocksOf};
 ghost use Rattle.find.specs.Searches as searches;
-ghost use Rattle.edit.specs.Edits.{added, removed, reinstated, numberOf, placeOf};
+ghost use Rattle.add.specs.Adds.{added};
+ghost use Rattle.change.specs.Changes.{removed, reinstated};
+ghost use Rattle.edit.specs.Edits.{numberOf, placeOf};
 ghost use Rattle.taffrail.specs.Calls.{windowFrom, Wrote};
 
 // The check.
@@ -81,7 +83,7 @@ pub extern "C" fn taffrail_add(
     ensures maps { λ r. ⌜ now (map .exit) ≡ added (now (map .entry)) used (now (journal .entry)) edit (now (object .entry)) .map ⌝ }
     ensures journals { λ r. ⌜ now (journal .exit) ≡ added (now (map .entry)) used (now (journal .entry)) edit (now (object .entry)) .journal ⌝ }
 {
-    let a = edit::add(map, used, journal, edit, object);
+    let a = add::add(map, used, journal, edit, object);
     tell(a, place, before, slot, length)
 }
 
@@ -102,7 +104,7 @@ pub extern "C" fn taffrail_remove(
     ensures maps { λ r. ⌜ now (map .exit) ≡ removed (now (map .entry)) used (now (journal .entry)) edit at .map ⌝ }
     ensures journals { λ r. ⌜ now (journal .exit) ≡ removed (now (map .entry)) used (now (journal .entry)) edit at .journal ⌝ }
 {
-    let a = edit::remove(map, used, journal, edit, at);
+    let a = change::remove(map, used, journal, edit, at);
     tell(a, place, before, slot, length)
 }
 
@@ -123,6 +125,6 @@ pub extern "C" fn taffrail_reinstate(
     ensures maps { λ r. ⌜ now (map .exit) ≡ reinstated (now (map .entry)) used (now (journal .entry)) edit at .map ⌝ }
     ensures journals { λ r. ⌜ now (journal .exit) ≡ reinstated (now (map .entry)) used (now (journal .entry)) edit at .journal ⌝ }
 {
-    let a = edit::reinstate(map, used, journal, edit, at);
+    let a = change::reinstate(map, used, journal, edit, at);
     tell(a, place, before, slot, length)
 }

@@ -31,7 +31,7 @@ use numbers::put_u16_at;
 use numbers::put_u32_at;
 use numbers::signed32_of;
 use numbers::u32_at;
-use records::Window;
+use windows::Window;
 ghost use Prim.Native.Nat.{_<_};
 
 // An order of the script.
@@ -377,7 +377,7 @@ fn call_add(map: &mut [u8], journal: &mut [u8], object: &[u8], d: Desk, number: 
     if object.len() < bytes {
         return d;
     }
-    let a = edit::add(
+    let a = add::add(
         &mut map[0..n],
         d.used,
         &mut journal[0..records],
@@ -396,7 +396,7 @@ fn call_remove(map: &mut [u8], journal: &mut [u8], d: Desk, number: u32, at: u32
     if journal.len() < records {
         return d;
     }
-    let a = edit::remove(&mut map[0..n], d.used, &mut journal[0..records], number, at);
+    let a = change::remove(&mut map[0..n], d.used, &mut journal[0..records], number, at);
     say_edit(map, journal, d, a)
 }
 
@@ -409,7 +409,7 @@ fn call_reinstate(map: &mut [u8], journal: &mut [u8], d: Desk, number: u32, at: 
     if journal.len() < records {
         return d;
     }
-    let a = edit::reinstate(&mut map[0..n], d.used, &mut journal[0..records], number, at);
+    let a = change::reinstate(&mut map[0..n], d.used, &mut journal[0..records], number, at);
     say_edit(map, journal, d, a)
 }
 

@@ -28,9 +28,9 @@ use denote.Slice.{sliceVal, ShrSlice, shr-slice-copy}
 use denote.Struct.Laws as LL
 use denote.Triple.Statement.{Contract}
 use denote.Triple.Spec.{tripleOf}
-use Rattle.records.specs.declared.Window.{Window}
-use Rattle.records.proofs.Window as P
-use Rattle.records.proofs.Window.Laws as P′
+use Rattle.windows.specs.declared.Window.{Window}
+use Rattle.windows.proofs.Window as P
+use Rattle.windows.proofs.Window.Laws as P′
 use Rattle.find.specs.declared.Answer.{Answer}
 use Rattle.find.specs.Searches.{answerOf, listAfter}
 use Rattle.find.proofs.checked_length as checked-length

@@ -1,6 +1,6 @@
 // The reader's view of a lent map: the slice and its checked length, together.
 use find::Answer;
-use records::Window;
+use windows::Window;
 ghost use mathlib.Core.Path.{_≡_};
 ghost use lib.ListN.{length};
 ghost use Rattle.find.specs.Searches.{checkedLength, answerOf, listAfter};

@@ -3,7 +3,6 @@
 use mathlib.Core.Path.{sym, ap, _∙_}
 use denote.Ref.{now}
 use borrow.Author.Needs.{needs}
-use Rattle.accept.specs.declared.Opened.{Opened}
 use Rattle.accept.specs.Slots.{withFree}
 use Rattle.accept.specs.Opens.{afterOpened}
 use Rattle.accept.proofs.Slots.{accepted-free}

@@ -5,7 +5,7 @@ use borrow.Author.Needs.{needs}
 use Rattle.records.specs.Sizes.{indexBlockSize, entrySize}
 use Rattle.chain.specs.Cells.{cellIn}
 use Rattle.chain.specs.Tables.{endsMeet}
-use Rattle.accept.specs.Judging.{badEntry}
+use Rattle.judge.specs.Judging.{badEntry}
 use Rattle.accept.proofs.Looking.{Looking, look-start, look-on, look-bad, look-good}
 use Rattle.accept.proofs.judge_block_entries.Statement.{statement}
 use Rattle.accept.proofs.judge_block_entries.Tie as tie

@@ -9,10 +9,10 @@ use borrow.Author.Needs.{needs}
 use Rattle.records.specs.Sizes.{indexBlockSize, slotSize}
 use Rattle.chain.specs.Cells.{cellIn}
 use Rattle.chain.specs.Tables.{endsMeet}
-use Rattle.accept.specs.Judging.{badSlot}
-use Rattle.accept.specs.Slots.{noLen, firstFree, freeIn}
+use Rattle.judge.specs.Judging.{badSlot, noLen}
+use Rattle.accept.specs.Slots.{firstFree, freeIn}
 use Rattle.accept.proofs.Firsts.{firstOr, or-found, or-not, or-none, or-all}
-use Rattle.accept.proofs.Slots.{no-len, has-len, fault-free}
+use Rattle.judge.proofs.States.{no-len, has-len, fault-free}
 use Rattle.accept.proofs.Looking.{Looking, look-start, look-on, look-found, look-none}
 use Rattle.accept.proofs.judge_block_slots.Statement.{statement}
 use Rattle.accept.proofs.judge_block_slots.Tie as tie

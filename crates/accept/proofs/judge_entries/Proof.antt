@@ -7,10 +7,10 @@ use borrow.Author.Needs.{needs}
 use Rattle.records.specs.Sizes.{entrySize}
 use Rattle.chain.specs.Cells.{cellIn}
 use Rattle.chain.proofs.Chains.{taken-pass}
-use Rattle.accept.specs.Rules.{symbolRule, touches}
-use Rattle.accept.specs.Judging.{badEntry}
+use Rattle.judge.specs.Rules.{symbolRule, touches}
+use Rattle.judge.specs.Judging.{badEntry}
 use Rattle.accept.specs.Verdicts.{cellsJudged, entriesJudgedOf}
-use Rattle.accept.proofs.Judging.{same-touch}
+use Rattle.judge.proofs.Judging.{same-touch}
 use Rattle.accept.proofs.Looking.{Along, along-start, along-inside, along-on, along-bad, along-good}
 use Rattle.accept.proofs.judge_entries.Statement.{statement}
 use Rattle.accept.proofs.judge_entries.Tie as tie

@@ -1,7 +1,7 @@
 -- `accept::judge_fields` meets its contract: each test that fails settles the answer. Assumes nothing.
 use borrow.Author.Tests.{eq-eqb, ne-eqb}
 use Rattle.accept.specs.Verdicts.{fieldsJudged}
-use Rattle.accept.proofs.Judging.{fails, passes}
+use Rattle.judge.proofs.Judging.{fails, passes}
 use borrow.Author.Needs.{needs}
 use Rattle.accept.proofs.judge_fields.Statement.{statement}
 use Rattle.accept.proofs.judge_fields.Tie as tie

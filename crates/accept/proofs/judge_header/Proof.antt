@@ -1,6 +1,6 @@
 -- `accept::judge_header` meets its contract: the three tests of the length, then the fields. Assumes nothing.
 use borrow.Author.Tests.{le-leb, lt-leb}
-use Rattle.accept.specs.Judging.{lengthGood}
+use Rattle.judge.specs.Judging.{lengthGood}
 use Rattle.accept.specs.Verdicts.{headerJudged}
 use borrow.Author.Needs.{needs}
 use Rattle.accept.proofs.judge_header.Statement.{statement}

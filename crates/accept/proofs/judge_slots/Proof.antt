@@ -11,17 +11,17 @@ use Rattle.numbers.specs.Bytes.{u32At}
 use Rattle.numbers.proofs.Below.{First, first-law}
 use Rattle.records.specs.Sizes.{slotSize}
 use Rattle.records.specs.Headers.{indexHead}
-use Rattle.records.specs.declared.State.the-variants.{Free}
-use Rattle.records.specs.Slots.{stateOf, sameState}
+use Rattle.slots.specs.declared.State.the-variants.{Free}
+use Rattle.slots.specs.Slots.{stateOf, sameState}
 use Rattle.chain.specs.Chains.{place}
 use Rattle.chain.specs.Cells.{cellIn}
 use Rattle.chain.proofs.Chains.{walked-pass}
 use Rattle.accept.specs.declared.Examined.the-variants.{Accepted}
-use Rattle.accept.specs.Rules.{indexRule, touches}
-use Rattle.accept.specs.Judging.{versionOf, badSlot}
-use Rattle.accept.specs.Slots.{slotIn, freeSlot, noLen, firstFree, freeIn}
+use Rattle.judge.specs.Rules.{indexRule, touches}
+use Rattle.judge.specs.Judging.{versionOf, badSlot, noLen}
+use Rattle.accept.specs.Slots.{slotIn, freeSlot, firstFree, freeIn}
 use Rattle.accept.specs.Verdicts.{slotsJudgedOf}
-use Rattle.accept.proofs.Judging.{same-touch}
+use Rattle.judge.proofs.Judging.{same-touch}
 use Rattle.accept.proofs.Firsts.{first-same, firstOr, or-run, or-none, or-all}
 use Rattle.accept.proofs.Slots.{free-len}
 use Rattle.accept.proofs.Looking.{Along, cells-good, cells-bad, along-start, along-inside, along-cell, along-on, along-bad, along-good, pass-few}

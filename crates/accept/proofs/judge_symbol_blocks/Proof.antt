@@ -5,8 +5,8 @@ use denote.Ref.{now}
 use borrow.Author.Needs.{needs}
 use Rattle.chain.specs.declared.Walk.the-variants.{Blocks, Fault}
 use Rattle.chain.specs.Chains.{walked}
-use Rattle.accept.specs.Rules.{symbolRule}
-use Rattle.accept.proofs.Rules.{symbol-rule, symbol-ready, walk-by, fault-fits}
+use Rattle.judge.specs.Rules.{symbolRule}
+use Rattle.judge.proofs.Rules.{symbol-rule, symbol-ready, walk-by, fault-fits}
 use Rattle.accept.proofs.Verdicts.{taken-of, symbols-is, first-good}
 use Rattle.accept.proofs.judge_symbol_blocks.Statement.{statement}
 use Rattle.accept.proofs.judge_symbol_blocks.Tie as tie

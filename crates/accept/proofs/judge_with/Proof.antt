@@ -3,7 +3,7 @@ use mathlib.Core.Path.{_≡_, sym, ap, _∙_}
 use borrow.Author.Needs.{needs}
 use denote.Ref.{now}
 use Rattle.chain.specs.Chains.{walked}
-use Rattle.accept.specs.Rules.{indexRule}
+use Rattle.judge.specs.Rules.{indexRule}
 use Rattle.accept.specs.Opens.{afterOpened}
 use Rattle.accept.specs.Verdicts.{afterIndex}
 use Rattle.accept.proofs.Opens.{after-opened}

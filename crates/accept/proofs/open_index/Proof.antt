@@ -12,9 +12,9 @@ use Rattle.chain.specs.Chains.{walked, taken}
 use Rattle.chain.specs.Tables.{Placed, Table}
 use Rattle.chain.proofs.Tables.{zeros}
 use Rattle.chain.proofs.Walking.{table-of}
-use Rattle.accept.specs.Rules.{indexRule}
+use Rattle.judge.specs.Rules.{indexRule}
 use Rattle.accept.specs.Opens.{openedAfter}
-use Rattle.accept.proofs.Rules.{index-rule, index-ready, walk-by, fault-fits}
+use Rattle.judge.proofs.Rules.{index-rule, index-ready, walk-by, fault-fits}
 use Rattle.accept.proofs.open_index.Statement.{statement}
 use Rattle.accept.proofs.open_index.Tie as tie
 

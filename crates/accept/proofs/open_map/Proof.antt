@@ -1,6 +1,6 @@
 -- `accept::open_map` meets its contract: the header's fault, or what opening the index blocks tells. Assumes nothing.
 use native.Mathlib.Omega.{arith}
-use mathlib.Core.Path.{sym, ap, _∙_}
+use mathlib.Core.Path.{sym, _∙_}
 use denote.Ref.{now}
 use Rattle.accept.specs.Opens.{openedOf}
 use Rattle.accept.proofs.Verdicts.{header-tells}

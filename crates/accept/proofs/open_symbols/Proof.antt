@@ -1,7 +1,7 @@
 -- `accept::open_symbols` meets its contract: filling keeps the blocks, and the symbols are judged by the table. Assumes nothing.
 use native.Mathlib.Omega.{arith}
 use Prim.Native.Nat.{ℕ, _+_, _-_, _/_, _≤_}
-use mathlib.Core.Path.{_≡_, refl}
+use mathlib.Core.Path.{_≡_}
 use borrow.Author.Needs.{needs}
 use denote.Ref.{now}
 use lib.ListN.{getD}
@@ -10,7 +10,7 @@ use Rattle.records.specs.Headers.{indexHead}
 use Rattle.chain.specs.Tables.{Filled, EndsTable}
 use Rattle.chain.proofs.Chains.{Pass, walked-pass}
 use Rattle.chain.proofs.Filling.{fill-filled, fill-table, entry-most, entry-none}
-use Rattle.accept.specs.Rules.{indexRule}
+use Rattle.judge.specs.Rules.{indexRule}
 use Rattle.accept.specs.Opens.{openedAfter}
 use Rattle.accept.proofs.open_symbols.Statement.{statement}
 use Rattle.accept.proofs.open_symbols.Tie as tie

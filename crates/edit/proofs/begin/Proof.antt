@@ -12,7 +12,7 @@ use Rattle.accept.proofs.Slots.{plain, verdict-of, accepted-free}
 use Rattle.accept.proofs.Accepting.{Holds, accepted-tells}
 use Rattle.edit.specs.declared.Start.the-variants as starts
 use Rattle.edit.specs.Edits.{Known}
-use Rattle.edit.proofs.Changing.{blocks-fit, order-ready, reach, known-by, start-refused, start-look}
+use Rattle.edit.proofs.Edits.{blocks-fit, order-ready, reach, known-by, start-refused, start-look}
 use borrow.Author.Needs.{needs}
 use Rattle.edit.proofs.begin.Statement.{statement}
 use Rattle.edit.proofs.begin.Tie as tie

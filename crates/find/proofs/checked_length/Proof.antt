@@ -1,6 +1,6 @@
 -- `find::checked_length` meets its contract, test by test. Assumes nothing.
 use borrow.Author.Tests.{le-leb, lt-leb}
-use Rattle.accept.specs.Judging.{lengthGood}
+use Rattle.judge.specs.Judging.{lengthGood}
 use Rattle.find.specs.Searches.{checkedLength}
 use Rattle.find.proofs.checked_length.Statement.{statement}
 use Rattle.find.proofs.checked_length.Tie as tie

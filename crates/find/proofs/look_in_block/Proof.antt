@@ -3,7 +3,6 @@ use native.Mathlib.Omega.{arith}
 use Prim.Native.Nat.{ℕ, _+_, _-_, _*_, _≤_}
 use mathlib.Core.Path.{_≡_, refl, ap}
 use denote.Ref.{now}
-use borrow.Author.Needs.{needs}
 use Rattle.numbers.specs.Below.{sel}
 use Rattle.numbers.proofs.Below.{First, first-law}
 use Rattle.records.specs.Sizes.{indexBlockSize, slotSize}
@@ -11,7 +10,7 @@ use lib.Count.{ones as count}
 use lib.ListN.{length}
 use Rattle.bits.specs.Bits.{bitsFrom, wordBits}
 use Rattle.chain.specs.Tables.{endsMeet}
-use Rattle.accept.specs.Judging.{badSlot}
+use Rattle.judge.specs.Judging.{badSlot}
 use Rattle.find.specs.Looks.{blockWords, slotFrom, liveFrom}
 use Rattle.find.proofs.Looks.{Rows, rows-start, rows-few, rows-bad, rows-on, rows-none, rows-done, word-count, word-few}
 use Rattle.find.proofs.look_in_block.Statement.{statement}

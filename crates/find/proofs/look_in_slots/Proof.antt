@@ -1,6 +1,6 @@
 -- `find::look_in_slots` meets its contract, by the laws of the look along the blocks. The measure is what is left of them. Assumes nothing.
 use native.Mathlib.Omega.{arith}
-use Prim.Native.Nat.{ℕ, _+_, _-_, _*_, _≤_, _<_}
+use Prim.Native.Nat.{_+_, _-_, _≤_, _<_}
 use mathlib.Core.Path.{_≡_, refl, sym, ap, _∙_}
 use denote.Ref.{now}
 use borrow.Author.Needs.{needs}
@@ -9,9 +9,9 @@ use Rattle.records.specs.Sizes.{mostBlocks, slotSize}
 use Rattle.chain.specs.Cells.{cellIn}
 use Rattle.chain.proofs.Chains.{walked-pass}
 use Rattle.accept.specs.declared.Judged.the-variants.{Bad}
-use Rattle.accept.specs.Rules.{indexRule}
-use Rattle.accept.proofs.Judging.{same-touch}
-use Rattle.accept.proofs.Rules.{most-blocks}
+use Rattle.judge.specs.Rules.{indexRule}
+use Rattle.judge.proofs.Judging.{same-touch}
+use Rattle.judge.proofs.Rules.{most-blocks}
 use Rattle.find.proofs.Looks.{atFault, Marking, mark-start, mark-inside, mark-slots, mark-bad, mark-on, mark-done}
 use Rattle.find.proofs.look_in_slots.Statement.{statement}
 use Rattle.find.proofs.look_in_slots.Tie as tie

@@ -1,18 +1,17 @@
 -- `find::look_in_word` meets its contract, by the laws of the look at the cells and of their bits. The measure is what is left of the word's slots. Assumes nothing.
 use native.Mathlib.Omega.{arith}
-use Prim.Native.Nat.{ℕ, _+_, _-_, _*_, _/_, _≤_}
+use Prim.Native.Nat.{_+_, _-_, _≤_}
 use mathlib.Core.Path.{_≡_, refl, sym, ap, _∙_}
-use mathlib.Core.Bool.{true, false}
+use mathlib.Core.Bool.{false}
 use mathlib.Core.Logic.{⊎-elim}
 use denote.Ref.{now}
-use borrow.Author.Needs.{needs}
 use Rattle.records.specs.Sizes.{indexBlockSize, slotSize}
 use Rattle.bits.specs.Bits.{wordBits}
 use Rattle.chain.specs.Tables.{endsMeet}
-use Rattle.accept.specs.Judging.{badSlot}
-use Rattle.accept.proofs.Slots.{fault-free}
+use Rattle.judge.specs.Judging.{badSlot}
+use Rattle.judge.proofs.States.{fault-free}
 use Rattle.accept.proofs.Looking.{Looking, look-start, look-on, look-found, look-none}
-use Rattle.records.specs.declared.State.the-variants.{Live}
+use Rattle.slots.specs.declared.State.the-variants.{Live}
 use Rattle.find.specs.Searches.{wantedAt}
 use Rattle.find.specs.Looks.{slotFrom, liveFrom}
 use Rattle.find.proofs.Looks.{one-at-most, Looks, looks-start, looks-low, looks-on, looks-past, looks-done, unwanted-free, unwanted-erased, wanted-live}

@@ -6,7 +6,7 @@ use denote.Ref.{now}
 use borrow.Author.Needs.{needs}
 use borrow.Author.Tests.{not-true, not-false}
 use mathlib.Core.Bool.{true}
-use Rattle.records.specs.Windows.{windowGood}
+use Rattle.windows.specs.Windows.{windowGood}
 use Rattle.chain.proofs.Tables.{zeros}
 use Rattle.find.proofs.Searches.{window-leaves}
 use Rattle.find.proofs.search.Statement.{statement}

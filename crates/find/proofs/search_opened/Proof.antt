@@ -1,5 +1,5 @@
 -- `find::search_opened` meets its contract: the refusal that opening the map told, or the search of the open map. Assumes nothing.
-use mathlib.Core.Path.{_≡_, sym, ap, subst, _∙_}
+use mathlib.Core.Path.{sym, ap, subst, _∙_}
 use lib.ListN.{length}
 use denote.Ref.{now}
 use borrow.Author.Needs.{needs}

@@ -44,11 +44,11 @@ use denote.Triple.Clauses.{ensured, lasts}
 use denote.Exit.{yes}
 use Rattle.view.specs.declared.MapView.{MapView}
 use Rattle.find.specs.declared.Answer.{Answer}
-use Rattle.records.specs.declared.Window.{Window}
+use Rattle.windows.specs.declared.Window.{Window}
 use Rattle.view.proofs.MapView as T
 use Rattle.view.proofs.MapView.Laws as T′
-use Rattle.records.proofs.Window as P
-use Rattle.records.proofs.Window.Laws as P′
+use Rattle.windows.proofs.Window as P
+use Rattle.windows.proofs.Window.Laws as P′
 use Rattle.find.proofs.Answer as S
 use Rattle.find.proofs.Answer.Laws as S′
 use Rattle.find.proofs.search as search

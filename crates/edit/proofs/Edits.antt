@@ -1,0 +1,121 @@
+-- What the three edits have in common: the tables of an accepted map, how an edit starts, and an outcome by its parts. Assumes nothing.
+use Prim.Native.Nat.{ℕ, _+_, _≤_, _<_}
+use mathlib.Core.Path.{_≡_, refl, sym, ap, _∙_}
+use mathlib.Core.List.{List}
+use native.Mathlib.Omega.{arith}
+use lib.ListN.{length}
+use Rattle.records.specs.Sizes.{indexBlockSize, indexPage, mostBlocks}
+use Rattle.records.specs.Headers.{indexHead}
+use Rattle.chain.specs.Chains.{block}
+use Rattle.chain.specs.Tables.{Filled, EndsTable}
+use Rattle.chain.specs.Cells.{Ordered}
+use Rattle.chain.proofs.Chains.{few}
+use Rattle.accept.specs.declared.Verdict.{Verdict}
+use Rattle.accept.specs.declared.Verdict.the-variants as verdicts
+use Rattle.accept.specs.Verdicts.{verdict}
+use Rattle.accept.proofs.Accepting.{Holds}
+use Rattle.judge.proofs.Rules.{most-blocks}
+use Rattle.frame.proofs.Writes.{pass-of, slot-lies}
+use Rattle.journal.specs.declared.Look.{Look}
+use Rattle.journal.specs.Journals.{inUse, looked, Reach}
+use Rattle.journal.proofs.Journals.{looked-new}
+use Rattle.edit.specs.declared.Answer.{Answer}
+use Rattle.edit.specs.declared.Answer.the-variants.{Refused}
+use Rattle.edit.specs.declared.Start.the-variants as starts
+use Rattle.accept.specs.Slots.{freeSlot}
+use Rattle.edit.specs.Edits.{Outcome, saying, afterLook, afterCheck, startOf, Roomy, Known}
+use Prim.Native.Nat.{ℕ, _+_, _-_, _≤_, _<_}
+use mathlib.Core.List.{List}
+use lib.ListN.{length}
+use Rattle.journal.specs.declared.Look.the-variants.{Malformed, Held, New}
+
+-- ---- the tables of an accepted map
+
+module _ {m : List ℕ} {used n : ℕ} (h : Holds m used n) where
+  -- an accepted map has at most as many index blocks as the tables of an edit have room for
+  pub few-blocks : n ≤ mostBlocks
+  few-blocks = most-blocks (pass-of h) (h .limit)
+
+  -- a table with room for them has an entry for each
+  pub blocks-fit : {index o : List ℕ} → Roomy used index o → n ≤ length o
+  blocks-fit r = omega (arith, few (pass-of h) (omega arith), r .blocks)
+
+  -- what the blocks' order asks
+  pub order-ready : (o : List ℕ) → n ≤ length o → (16 ≤ length m) × ((k : ℕ) → k < n → block 12 m k + 4 ≤ length m) × (n ≤ length o)
+  order-ready o l =
+      (omega (arith, h .low, h .room), λ k g. omega (arith, pass-of h .lies k g .high, h .room), l)
+
+  -- what a look into the journal asks
+  pub reach : (o : List ℕ) → n ≤ length o → Ordered indexHead m n o → Reach m o n
+  reach o l e =
+      record {
+        known = l;
+        few = omega (arith, few-blocks);
+        ordered = e;
+        inside = λ s g. omega (arith, slot-lies h s g .high, h .room);
+      }
+
+-- a verdict has one number of blocks
+accepted-one : {v : Verdict} {b n : ℕ} → v ≡ verdicts.Accepted b → v ≡ verdicts.Accepted n → b ≡ n
+accepted-one p q = cc
+
+pub known-by : {m : List ℕ} {used b : ℕ} {index order : List ℕ} {v : Verdict} → v ≡ verdicts.Accepted b
+    → Filled indexBlockSize indexPage used index × EndsTable indexBlockSize indexHead indexPage m b index → Ordered indexHead m b order
+    → (n : ℕ) → v ≡ verdicts.Accepted n → Known m used n index order
+known-by p t o n q = let e = accepted-one p q in record { filled = t .0; table = rw e at (t .1); ordered = rw e at o }
+
+-- ---- the start
+
+module _ (m : List ℕ) (used : ℕ) (jn : List ℕ) (e : ℕ) where
+  pub start-refused : {k p : ℕ} → verdict m used ≡ verdicts.Refused k p → startOf m used jn e ≡ starts.Refused k p
+  unfolding startOf
+  start-refused q = rw q
+
+  pub start-look : {n : ℕ} {l : Look} → verdict m used ≡ verdicts.Accepted n → looked jn m n e ≡ l → startOf m used jn e ≡ afterLook m n l
+  unfolding startOf
+  start-look q f = rw (q, f)
+
+-- and back
+module _ (m : List ℕ) (used : ℕ) (j : List ℕ) (e : ℕ) where
+  no-start : {A : Type 0} → _≡_ {A = ℕ} 0 1 → A
+  no-start z = let no-way : ⊥ = omega arith in absurd no-way
+
+  look-held : (k n kind slot : ℕ) (l : Look) → afterLook m k l ≡ starts.Held n kind slot → (k ≡ n) × (l ≡ Held kind slot)
+  look-held k n kind slot Malformed q = no-start (cc)
+  look-held k n kind slot (Held x y) q = ((cc), (cc))
+  look-held k n kind slot (New x) q = no-start (cc)
+
+  look-new : (k n r f : ℕ) (l : Look) → afterLook m k l ≡ starts.New n r f → (k ≡ n) × (l ≡ New r) × (f ≡ freeSlot m k)
+  look-new k n r f Malformed q = no-start (cc)
+  look-new k n r f (Held x y) q = no-start (cc)
+  look-new k n r f (New x) q = ((cc), (cc), (cc))
+
+  pub start-held : (n kind slot : ℕ) → startOf m used j e ≡ starts.Held n kind slot → (verdict m used ≡ verdicts.Accepted n) × (looked j m n e ≡ Held kind slot)
+  unfolding startOf
+  start-held n kind slot q = go (verdict m used) refl q
+    where
+      go : (v : Verdict) → verdict m used ≡ v → afterCheck m j e v ≡ starts.Held n kind slot → (verdict m used ≡ verdicts.Accepted n) × (looked j m n e ≡ Held kind slot)
+      go (verdicts.Refused k p) f g = no-start (cc)
+      go (verdicts.Accepted k) f g = let r = look-held k n kind slot (looked j m k e) g in rw (← r .0) (f, r .1)
+
+  pub start-new : (n r f : ℕ) → startOf m used j e ≡ starts.New n r f → (verdict m used ≡ verdicts.Accepted n) × (looked j m n e ≡ New r) × (f ≡ freeSlot m n)
+  unfolding startOf
+  start-new n r f q = go (verdict m used) refl q
+    where
+      go : (v : Verdict) → verdict m used ≡ v → afterCheck m j e v ≡ starts.New n r f → (verdict m used ≡ verdicts.Accepted n) × (looked j m n e ≡ New r) × (f ≡ freeSlot m n)
+      go (verdicts.Refused k p) h g = no-start (cc)
+      go (verdicts.Accepted k) h g = let x = look-new k n r f (looked j m k e) g in rw (← x .0) (h, x .1, x .2)
+
+  -- and how many records are in use
+  pub start-records : (n r f : ℕ) → startOf m used j e ≡ starts.New n r f → r ≡ inUse j
+  start-records n r f q = looked-new j m n e r (start-new n r f q .1) .2
+
+-- ---- the outcome
+
+-- its three parts
+pub parts : {a b : Outcome} → a ≡ b → (b .answer ≡ a .answer) × ((b .map ≡ a .map) × (b .journal ≡ a .journal))
+parts e = (sym (ap (λ (o : Outcome). o .answer) e), (sym (ap (λ (o : Outcome). o .map) e), sym (ap (λ (o : Outcome). o .journal) e)))
+
+-- of one that changes nothing, where r is its answer
+pub said : {m jn : List ℕ} {r a : Answer} {w : Outcome} → r ≡ a → w ≡ saying m jn a → (r ≡ w .answer) × ((m ≡ w .map) × (jn ≡ w .journal))
+said q e = let p = parts e in (q ∙ p .0, p .1)

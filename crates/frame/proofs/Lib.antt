@@ -1,0 +1,5 @@
+-- What a change of a map leaves.
+--     Frame        a change of a map, and what stays as it was
+--     Writes       the writes of the edits, as such changes
+pub mod Frame
+pub mod Writes

@@ -1,0 +1,1 @@
+// What a change of a map leaves: laws alone, no code.

@@ -1,0 +1,110 @@
+-- The laws of the two kinds of chain: as the code hands a kind to the walk, it is the rule of specs/; what the walk needs of it; where a link can stand; and how
+-- many index blocks there are at most. Assumes nothing.
+use Prim.Native.Nat.{ℕ, zero, suc, _+_, _*_, _≤_, _<_}
+use mathlib.Core.Bool.{Bool}
+use mathlib.Core.Path.{_≡_, refl, sym, ap, _∙_, subst}
+use mathlib.Core.List.{List}
+use native.Mathlib.Omega.{arith}
+use lib.ListN.{length}
+use Rattle.numbers.specs.Bytes.{Bytes}
+use Rattle.numbers.proofs.Bytes.{leAt-lt}
+use Rattle.records.specs.declared.Header.{Header}
+use Rattle.records.specs.Sizes.{headerSize, mapLimit, indexBlockSize, indexPage, mostBlocks, symbolBlockSize, symbolPage}
+use Rattle.records.specs.Headers.{headerOf, setupAt, infoAt, indexHead, symbolHead}
+use Rattle.chain.specs.declared.Kind.{Kind}
+use Rattle.chain.specs.declared.Walk.{Walk}
+use Rattle.chain.specs.declared.Walk.the-variants.{Fault}
+use Rattle.chain.specs.Chains.{Rule, place, walked, taken}
+use Rattle.chain.specs.Tables.{Empty, Placed, Filled, Table, EndsTable, kindRule, Ready}
+use Rattle.chain.proofs.Chains.{Pass, few, fault-tells}
+use Rattle.chain.proofs.Tables.{rule-ranges, rule-other}
+use Rattle.chain.proofs.Filling.{empty-filled}
+use Rattle.judge.specs.Rules.{indexRule, symbolRule, indexKind, symbolKind}
+use Rattle.judge.proofs.Judging.{same-touch}
+
+-- ---- index blocks
+
+-- they share no byte, so a map has room for so many
+pub most-blocks : {m : List ℕ} {used n : ℕ} → Pass (indexRule m) m used n → used ≤ mapLimit → n ≤ mostBlocks
+most-blocks h l = omega (arith, few h (omega arith))
+
+module _ (m : List ℕ) {h : Header} {k : Kind} (e : h ≡ headerOf m) (f : k ≡ indexKind h) (none : List ℕ) (g : Empty none) where
+  pub index-rule : kindRule k none ≡ indexRule m
+  unfolding headerOf
+  index-rule = rw (f, e) (rule-ranges (indexKind (headerOf m)) none g)
+
+  pub index-ready : {used : ℕ} {t : List ℕ} → Bytes m → headerSize ≤ used → used ≤ mapLimit → 2 ≤ length none → used + indexPage ≤ length t * indexPage → Ready k used none t
+  unfolding headerOf
+  index-ready b least most reach wide =
+      rw (f, e)
+      (record {
+        bounds = record {
+          most = most;
+          block-least = omega arith;
+          block-most = omega arith;
+          first-fits = leAt-lt 4 m setupAt b;
+          first-size-fits = leAt-lt 4 m 20 b;
+          second-fits = leAt-lt 4 m infoAt b;
+          second-size-fits = leAt-lt 4 m 28 b;
+          other-least = omega arith;
+          other-most = omega arith;
+          other-page = omega arith;
+          other-wide = omega arith;
+          other-filled = empty-filled indexBlockSize mapLimit _ g;
+        };
+        least = least;
+        head-in = omega arith;
+        page-least = omega arith;
+        page-most = omega arith;
+        wide = wide;
+      })
+
+-- ---- symbol blocks
+
+module _ {k : Kind} (e : k ≡ symbolKind) where
+  pub symbol-rule : {m : List ℕ} {n : ℕ} {index : List ℕ} → EndsTable indexBlockSize indexHead indexPage m n index → kindRule k index ≡ symbolRule m n
+  symbol-rule {index} w =
+      rw e
+      (rule-other symbolKind index refl refl
+      ∙ ap (λ (touch : ℕ → ℕ → Bool). record { head = symbolHead; size = symbolBlockSize; taboo = λ p. touch p symbolBlockSize }) (same-touch w))
+
+  pub symbol-ready : {used : ℕ} {index t : List ℕ} → headerSize ≤ used → used ≤ mapLimit → used + indexPage ≤ length index * indexPage → Filled indexBlockSize indexPage used index → used + symbolPage ≤ length t * symbolPage → Ready k used index t
+  symbol-ready least most reach filled wide =
+      rw e
+      (record {
+        bounds = record {
+          most = most;
+          block-least = omega arith;
+          block-most = omega arith;
+          first-fits = omega arith;
+          first-size-fits = omega arith;
+          second-fits = omega arith;
+          second-size-fits = omega arith;
+          other-least = omega arith;
+          other-most = omega arith;
+          other-page = omega arith;
+          other-wide = reach;
+          other-filled = filled;
+        };
+        least = least;
+        head-in = omega arith;
+        page-least = omega arith;
+        page-most = omega arith;
+        wide = wide;
+      })
+
+-- ---- what a walk answers, by the rule that its kind is
+
+pub walk-by : {r s : Rule} {m : List ℕ} (used : ℕ) {w : Walk} {a b : ℕ} {t : List ℕ} → r ≡ s → a ≡ b → (w ≡ walked r m used) × Placed a t × Table (r .head) a m (taken r m used) t → (walked s m used ≡ w) × Placed b t × Table (s .head) b m (taken s m used) t
+walk-by {m} used {w} {a} {t} e f h =
+    rw f at (subst (λ (q : Rule). (walked q m used ≡ w) × Placed a t × Table (q .head) a m (taken q m used) t) e (sym (h .0), h .1, h .2))
+
+-- ---- a link at fault stands at the head, or where another link says
+
+place-fits : (h : ℕ) (m : List ℕ) (k : ℕ) → Bytes m → h < 4294967296 → place h m k < 4294967296
+unfolding place
+place-fits h m zero b l = l
+place-fits h m (suc k) b l = leAt-lt 4 m (place h m k) b
+
+pub fault-fits : (r : Rule) (m : List ℕ) (used : ℕ) {p k : ℕ} → Bytes m → r .head < 4294967296 → walked r m used ≡ Fault p k → p < 4294967296
+fault-fits r m used {p} {k} b l e = rw (fault-tells r m used e .1) at (place-fits (r .head) m k b l)

@@ -1,0 +1,5 @@
+-- The definitions that the contracts of `judge` cite.
+--     Judging      whether a slot, a symbol entry or a part of the map is as document 01 wants it
+--     Rules        the two kinds of chain in a map, and where slots and entries stand
+pub mod Judging
+pub mod Rules

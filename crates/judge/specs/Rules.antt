@@ -1,0 +1,98 @@
+-- The two kinds of chain in a map m, and where slots and entries stand.
+--     Family                what maps of different versions have of their own: the bytes of an index block and of a slot, what an index block keeps off, and
+--                           whether a slot or a symbol entry at a place is at fault, by the test whether an index block shares a byte with a range
+--     narrow                the family of OCAD 6, 7 and 8
+--     indexRuleOf f, touchesOf f, symbolRuleOf f, slotAtOf f     the four below, of a family; those without a family are of 6, 7 and 8
+--     indexRule m           index blocks: the first link at 12, 6,148 bytes each, none shares a byte with setup or info. (Size 0 means absent: an empty range
+--                           shares no byte.)
+--     touches m n p len     whether one of the first n index blocks shares a byte with the len bytes from p on
+--     symbolRule m n        symbol blocks of a map with n index blocks: the first link at 8, 1,028 bytes each, none shares a byte with an index block
+--     indexKind h           the kind of the index blocks as the code hands it to the walk, by the header's setup and info
+--     symbolKind            the kind of the symbol blocks: they keep off the blocks of the index table
+--     slotAt m s            where slot s stands: block s / 256 of the chain, place s % 256
+--     entryAt m e           where symbol entry e stands, in the same way
+use Prim.Native.Nat.{ℕ}
+use mathlib.Core.Bool.{Bool, _||_}
+use mathlib.Core.List.{List}
+use Rattle.numbers.specs.Ranges.{share}
+use Rattle.records.specs.Sizes.{indexBlockSize, indexPage, slotSize, symbolBlockSize, symbolPage, entrySize, mapLimit}
+use Rattle.records.specs.Headers.{partOf, setupAt, infoAt, indexHead, symbolHead}
+use Rattle.records.specs.declared.Header.{Header}
+use Rattle.chain.specs.declared.Kind.{Kind}
+use Rattle.chain.specs.Chains.{Rule, meetsBlock}
+use Rattle.chain.specs.Cells.{cellAt}
+use Rattle.judge.specs.Judging.{versionOf, badSlot, badEntry}
+
+pub record Family : Type 0 where
+  pub block : ℕ
+  pub slot : ℕ
+  pub taboo : List ℕ → ℕ → Bool
+  pub slotAtFault : (ℕ → ℕ → Bool) → List ℕ → ℕ → ℕ → Bool
+  pub entryAtFault : (ℕ → ℕ → Bool) → List ℕ → ℕ → ℕ → Bool
+
+abbrev pub indexRuleOf : Family → List ℕ → Rule
+indexRuleOf f m = record { head = indexHead; size = f .block; taboo = f .taboo m }
+
+abbrev pub touchesOf : Family → List ℕ → ℕ → ℕ → ℕ → Bool
+touchesOf f m n p len = meetsBlock indexHead (f .block) m n p len
+
+abbrev pub symbolRuleOf : Family → List ℕ → ℕ → Rule
+symbolRuleOf f m n = record { head = symbolHead; size = symbolBlockSize; taboo = λ p. touchesOf f m n p symbolBlockSize }
+
+abbrev pub slotAtOf : Family → List ℕ → ℕ → ℕ
+slotAtOf f m s = cellAt indexHead (f .slot) m s
+
+abbrev pub narrow : Family
+narrow =
+    record {
+      block = indexBlockSize;
+      slot = slotSize;
+      taboo = λ m p.
+          share (partOf m setupAt .at) (partOf m setupAt .size) p indexBlockSize
+          || share (partOf m infoAt .at) (partOf m infoAt .size) p indexBlockSize;
+      slotAtFault = λ touch m used p. badSlot touch m used (versionOf m) p;
+      entryAtFault = badEntry;
+    }
+
+abbrev pub indexRule : List ℕ → Rule
+indexRule m = indexRuleOf narrow m
+
+abbrev pub touches : List ℕ → ℕ → ℕ → ℕ → Bool
+touches m n = touchesOf narrow m n
+
+abbrev pub symbolRule : List ℕ → ℕ → Rule
+symbolRule m n = symbolRuleOf narrow m n
+
+abbrev pub slotAt : List ℕ → ℕ → ℕ
+slotAt m s = slotAtOf narrow m s
+
+abbrev pub entryAt : List ℕ → ℕ → ℕ
+entryAt m e = cellAt symbolHead entrySize m e
+
+abbrev pub indexKind : Header → Kind
+indexKind h =
+    record {
+      head = indexHead;
+      size = indexBlockSize;
+      page = indexPage;
+      first = h .setup .at;
+      «first_size» = h .setup .size;
+      second = h .info .at;
+      «second_size» = h .info .size;
+      «other_size» = indexBlockSize;
+      «other_page» = mapLimit;
+    }
+
+abbrev pub symbolKind : Kind
+symbolKind =
+    record {
+      head = symbolHead;
+      size = symbolBlockSize;
+      page = symbolPage;
+      first = 0;
+      «first_size» = 0;
+      second = 0;
+      «second_size» = 0;
+      «other_size» = indexBlockSize;
+      «other_page» = indexPage;
+    }
