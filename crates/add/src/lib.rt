@@ -1,4 +1,5 @@
 // Add: an object at the old end, its slot in the first free one or in a new block, and a record.
+use accept::examine;
 use edit::Answer;
 use edit::Start;
 use edit::begin;
@@ -264,7 +265,8 @@ fn add_with(
     ensures maps { λ r. ⌜ now (map .exit) ≡ added (now (map .entry)) used (now (journal .entry)) edit (now (o .entry)) .map ⌝ }
     ensures journals { λ r. ⌜ now (journal .exit) ≡ added (now (map .entry)) used (now (journal .entry)) edit (now (o .entry)) .journal ⌝ }
 {
-    let start = begin(map, used, journal, edit, index, order);
+    let v = examine(map, used, index);
+    let start = begin(map, used, journal, edit, v, order);
     match start {
         Start::Refused { number, place } => Answer::Refused { number, place },
         Start::Held { blocks, kind, slot } => repeat_add(map, used, order, blocks, o, kind, slot),

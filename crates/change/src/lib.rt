@@ -1,4 +1,5 @@
 // Remove and reinstate: the Sym of one slot, and a record.
+use accept::examine;
 use edit::Answer;
 use edit::Start;
 use edit::begin;
@@ -178,7 +179,8 @@ fn change_with(
     ensures maps { λ r. ⌜ now (map .exit) ≡ changed (now (map .entry)) used (now (journal .entry)) edit kind at .map ⌝ }
     ensures journals { λ r. ⌜ now (journal .exit) ≡ changed (now (map .entry)) used (now (journal .entry)) edit kind at .journal ⌝ }
 {
-    let start = begin(map, used, journal, edit, index, order);
+    let v = examine(map, used, index);
+    let start = begin(map, used, journal, edit, v, order);
     match start {
         Start::Refused { number, place } => Answer::Refused { number, place },
         Start::Held {

@@ -1,10 +1,10 @@
 -- What the three edits have in common: the tables of an accepted map, how an edit starts, and an outcome by its parts. Assumes nothing.
-use Prim.Native.Nat.{ℕ, _+_, _≤_, _<_}
+use Prim.Native.Nat.{ℕ, _+_, _*_, _≤_, _<_}
 use mathlib.Core.Path.{_≡_, refl, sym, ap, _∙_}
 use mathlib.Core.List.{List}
 use native.Mathlib.Omega.{arith}
 use lib.ListN.{length}
-use Rattle.records.specs.Sizes.{indexBlockSize, indexPage, mostBlocks}
+use Rattle.records.specs.Sizes.{headerSize, indexBlockSize, indexPage, mostBlocks}
 use Rattle.records.specs.Headers.{indexHead}
 use Rattle.chain.specs.Chains.{block}
 use Rattle.chain.specs.Tables.{Filled, EndsTable}
@@ -22,9 +22,11 @@ use Rattle.journal.proofs.Journals.{looked-new}
 use Rattle.edit.specs.declared.Answer.{Answer}
 use Rattle.edit.specs.declared.Answer.the-variants.{Refused}
 use Rattle.edit.specs.declared.Start.the-variants as starts
-use Rattle.accept.specs.Slots.{freeSlot}
-use Rattle.edit.specs.Edits.{Outcome, saying, afterLook, afterCheck, startOf, Roomy, Known}
-use Prim.Native.Nat.{ℕ, _+_, _-_, _≤_, _<_}
+use Rattle.accept.specs.declared.Examined.{Examined}
+use Rattle.accept.specs.declared.Examined.the-variants as examined
+use Rattle.accept.specs.Slots.{freeSlot, withFree}
+use Rattle.edit.specs.Edits.{Outcome, saying, afterLook, afterCheck, startOf, Known}
+use Prim.Native.Nat.{ℕ, _+_, _*_, _≤_, _<_}
 use mathlib.Core.List.{List}
 use lib.ListN.{length}
 use Rattle.journal.specs.declared.Look.the-variants.{Malformed, Held, New}
@@ -37,8 +39,8 @@ module _ {m : List ℕ} {used n : ℕ} (h : Holds m used n) where
   few-blocks = most-blocks (pass-of h) (h .limit)
 
   -- a table with room for them has an entry for each
-  pub blocks-fit : {index o : List ℕ} → Roomy used index o → n ≤ length o
-  blocks-fit r = omega (arith, few (pass-of h) (omega arith), r .blocks)
+  pub blocks-fit : (o : List ℕ) → used < headerSize + indexBlockSize * (length o + 1) → n ≤ length o
+  blocks-fit o r = omega (arith, few (pass-of h) (omega arith))
 
   -- what the blocks' order asks
   pub order-ready : (o : List ℕ) → n ≤ length o → (16 ≤ length m) × ((k : ℕ) → k < n → block 12 m k + 4 ≤ length m) × (n ≤ length o)
@@ -59,10 +61,16 @@ module _ {m : List ℕ} {used n : ℕ} (h : Holds m used n) where
 accepted-one : {v : Verdict} {b n : ℕ} → v ≡ verdicts.Accepted b → v ≡ verdicts.Accepted n → b ≡ n
 accepted-one p q = cc
 
-pub known-by : {m : List ℕ} {used b : ℕ} {index order : List ℕ} {v : Verdict} → v ≡ verdicts.Accepted b
-    → Filled indexBlockSize indexPage used index × EndsTable indexBlockSize indexHead indexPage m b index → Ordered indexHead m b order
-    → (n : ℕ) → v ≡ verdicts.Accepted n → Known m used n index order
-known-by p t o n q = let e = accepted-one p q in record { filled = t .0; table = rw e at (t .1); ordered = rw e at o }
+pub ordered-by : (m order : List ℕ) {b : ℕ} {v : Verdict} → v ≡ verdicts.Accepted b → Ordered indexHead m b order → (n : ℕ) → v ≡ verdicts.Accepted n → Ordered indexHead m n order
+ordered-by m order p o n q = rw (accepted-one p q) at o
+
+-- what the examination and the start leave in the tables
+pub known-by : (m : List ℕ) (used n : ℕ) (index order : List ℕ) {x : Examined} → x ≡ withFree m (verdict m used)
+    → ((k f : ℕ) → x ≡ examined.Accepted k f → Filled indexBlockSize indexPage used index × EndsTable indexBlockSize indexHead indexPage m k index)
+    → Ordered indexHead m n order → verdict m used ≡ verdicts.Accepted n → Known m used n index order
+known-by m used n index order e t o q =
+    let k = t n (freeSlot m n) (e ∙ ap (withFree m) q) in
+    record { filled = k .0; table = k .1; ordered = o }
 
 -- ---- the start
 

@@ -1,21 +1,22 @@
 // What the three edits of a map under its journal have in common: their answers, and how they start. Each decides first, on the map and the journal as they are,
 // and writes after.
 use accept::Examined;
-use accept::examine;
 use chain::order_blocks;
 use journal::Look;
 use journal::look_up;
 use records::Header;
 ghost use mathlib.Core.Path.{_≡_};
-ghost use Prim.Native.Nat.{ℕ, _≤_};
+ghost use Prim.Native.Nat.{ℕ, _+_, _*_, _≤_, _<_};
 ghost use lib.ListN.{length};
-ghost use Rattle.records.specs.Sizes.{mapLimit};
+ghost use Rattle.records.specs.Sizes.{headerSize, indexBlockSize, mapLimit};
+ghost use Rattle.records.specs.Headers.{indexHead};
 ghost use Rattle.chain.specs.Chains.{place};
-ghost use Rattle.chain.specs.Tables.{Empty};
+ghost use Rattle.chain.specs.Cells.{Ordered};
+ghost use Rattle.accept.specs.Slots.{withFree};
 ghost use Rattle.accept.specs.Verdicts.{verdict};
 ghost use Rattle.accept.specs.declared.Verdict.the-variants.{Accepted};
 ghost use Rattle.edit.specs.declared.Answer.the-variants.{Refused};
-ghost use Rattle.edit.specs.Edits.{numberOf, placeOf, beforeOf, slotNo, lengthOf, startOf, Roomy, Known};
+ghost use Rattle.edit.specs.Edits.{numberOf, placeOf, beforeOf, slotNo, lengthOf, startOf};
 
 // What an edit answers: done, or done before, with the slot and the map's length; or a refusal.
 pub enum Answer {
@@ -114,12 +115,12 @@ pub enum Start {
     },
 }
 
-// The check and the look into the journal, with which every edit starts. The lent tables have the index blocks afterwards, where the map is accepted.
-pub fn begin(m: &[u8], used: usize, j: &[u8], e: u32, index: &mut [u32], order: &mut [u32]) -> Start
-    requires { ⌜ (used ≤ mapLimit → Roomy used (now index) (now order)) × Empty (now index) ⌝ }
-    ensures { λ r. ⌜ (r ≡ startOf (now (m .entry)) used (now (j .entry)) e) × ((n : ℕ) → verdict (now (m .entry)) used ≡ Accepted n → Known (now (m .entry)) used n (now (index .exit)) (now (order .exit))) ⌝ }
+// How an edit starts on a map that was examined: the check's refusal, or what the look into the journal says. The lent order has the index blocks afterwards,
+// where the map is accepted. The examination is the caller's, so that its tables are gone when those of the journal are made.
+pub fn begin(m: &[u8], used: usize, j: &[u8], e: u32, v: Examined, order: &mut [u32]) -> Start
+    requires { ⌜ (v ≡ withFree (now m) (verdict (now m) used)) × (used ≤ mapLimit → used < headerSize + indexBlockSize * (length (now order) + 1)) ⌝ }
+    ensures { λ r. ⌜ (r ≡ startOf (now (m .entry)) used (now (j .entry)) e) × ((n : ℕ) → verdict (now (m .entry)) used ≡ Accepted n → Ordered indexHead (now (m .entry)) n (now (order .exit))) ⌝ }
 {
-    let v = examine(m, used, index);
     match v {
         Examined::Refused { number, place } => Start::Refused { number, place },
         Examined::Accepted { blocks, free } => {

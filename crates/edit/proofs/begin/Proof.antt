@@ -4,6 +4,8 @@ use Prim.Native.Nat.{ℕ}
 use mathlib.Core.Path.{_≡_, sym, ap, _∙_}
 use native.Mathlib.Omega.{arith}
 use denote.Ref.{now}
+use Rattle.records.specs.Headers.{indexHead}
+use Rattle.chain.specs.Cells.{Ordered}
 use Rattle.accept.specs.declared.Verdict.the-variants.{Accepted}
 use Rattle.accept.specs.Verdicts.{verdict}
 use Rattle.accept.specs.Slots.{freeSlot}
@@ -11,86 +13,74 @@ use Rattle.accept.proofs.Verdicts.{refused}
 use Rattle.accept.proofs.Slots.{plain, verdict-of, accepted-free}
 use Rattle.accept.proofs.Accepting.{Holds, accepted-tells}
 use Rattle.edit.specs.declared.Start.the-variants as starts
-use Rattle.edit.specs.Edits.{Known}
-use Rattle.edit.proofs.Edits.{blocks-fit, order-ready, reach, known-by, start-refused, start-look}
+use Rattle.edit.proofs.Edits.{blocks-fit, order-ready, reach, ordered-by, start-refused, start-look}
 use borrow.Author.Needs.{needs}
 use Rattle.edit.proofs.begin.Statement.{statement}
 use Rattle.edit.proofs.begin.Tie as tie
 
+-- where the function starts, from where the map is known to be accepted
+abbrev start : tie.After-v2 → tie.Start
+start c = c .before .before .before .before .before
+
 -- the map is accepted, with so many blocks and this first free slot
-free : (c : tie.After-v2) → let a = c .before .before .before .before .before .before .before .before .before .before .args in (verdict (now (a .m)) (a .used) ≡ Accepted (c .v2 .given .0 .0)) × (c .v2 .given .0 .1 .0 ≡ freeSlot (now (a .m)) (c .v2 .given .0 .0))
-free c =
-    let a = c .before .before .before .before .before .before .before .before .before .before .args in
-    accepted-free (now (a .m)) (verdict (now (a .m)) (a .used)) (c .before .before .before .before .examine .ensures .0) (c .v2 .given .1)
+free : (c : tie.After-v2) → let a = start c .args in (verdict (now (a .m)) (a .used) ≡ Accepted (c .v2 .given .0 .0)) × (c .v2 .given .0 .1 .0 ≡ freeSlot (now (a .m)) (c .v2 .given .0 .0))
+free c = let s = start c in accepted-free (now (s .args .m)) (verdict (now (s .args .m)) (s .args .used)) (s .pre .0) (c .v2 .given .1)
 
-accepted : (c : tie.After-v2) → let a = c .before .before .before .before .before .before .before .before .before .before .args in verdict (now (a .m)) (a .used) ≡ Accepted (c .v2 .given .0 .0)
-accepted c = free c .0
-
-holds : (c : tie.After-v2) → let a = c .before .before .before .before .before .before .before .before .before .before .args in Holds (now (a .m)) (a .used) (c .v2 .given .0 .0)
-holds c =
-    let a = c .before .before .before .before .before .before .before .before .before .before .args in
-    accepted-tells (now (a .m)) (a .used) (c .v2 .given .0 .0) (accepted c)
-
-examine-requires : tie.Need-examine-requires
-examine-requires c κs =
-    let s = c .before .before .before .before .before in
-    (λ l. s .pre .0 l .pages, s .pre .1)
+holds : (c : tie.After-v2) → let a = start c .args in Holds (now (a .m)) (a .used) (c .v2 .given .0 .0)
+holds c = let a = start c .args in accepted-tells (now (a .m)) (a .used) (c .v2 .given .0 .0) (free c .0)
 
 order-blocks-requires : tie.Need-order-blocks-requires
 order-blocks-requires c κs =
     let v = c .before .before in
-    let s = v .before .before .before .before .before .before .before .before .before .before in
-    order-ready (holds v) (now (s .args .order)) (blocks-fit (holds v) (s .pre .0 (holds v .limit)))
+    let s = start v in
+    order-ready (holds v) (now (s .args .order)) (blocks-fit (holds v) (now (s .args .order)) (s .pre .1 (holds v .limit)))
 
 look-up-requires : tie.Need-look-up-requires
 look-up-requires c κs =
     let o = c .before .before .before in
     let v = o .before .before .before in
-    let s = v .before .before .before .before .before .before .before .before .before .before in
-    reach (holds v) (o .order-blocks .last .1 .1 .1 .0) (omega (arith, blocks-fit (holds v) (s .pre .0 (holds v .limit)), o .order-blocks .kept .1 .1 .1 .0)) (o .order-blocks .ensures)
+    let s = start v in
+    reach (holds v) (o .order-blocks .last .1 .1 .1 .0) (omega (arith, blocks-fit (holds v) (now (s .args .order)) (s .pre .1 (holds v .limit)), o .order-blocks .kept .1 .1 .1 .0)) (o .order-blocks .ensures)
 
--- the tables have the blocks
-known : (c : tie.After-look-up) → let o = c .before .before .before .before in let x = o .before .before .before .before .before .before .before in let a = x .before .before .before .before .before .before .args in (n : ℕ) → verdict (now (a .m)) (a .used) ≡ Accepted n → Known (now (a .m)) (a .used) n (x .examine .last .1 .1 .0) (o .order-blocks .last .1 .1 .1 .0)
-known c =
+-- the order has the blocks
+ordered : (c : tie.After-look-up) → let o = c .before .before .before .before in let a = start (o .before .before .before) .args in (n : ℕ) → verdict (now (a .m)) (a .used) ≡ Accepted n → Ordered indexHead (now (a .m)) n (o .order-blocks .last .1 .1 .1 .0)
+ordered c =
     let o = c .before .before .before .before in
     let v = o .before .before .before in
-    let x = v .before .before .before .before in
-    known-by (accepted v) (x .examine .ensures .1 (v .v2 .given .0 .0) (v .v2 .given .0 .1 .0) (v .v2 .given .1)) (o .order-blocks .ensures)
+    ordered-by (now (start v .args .m)) (o .order-blocks .last .1 .1 .1 .0) (free v .0) (o .order-blocks .ensures)
 
 returns : tie.Need-returns
 returns c =
-    let v = c .before in
-    let x = v .before .before .before .before in
-    let a = x .before .before .before .before .before .before .args in
-    let q = sym (verdict-of (now (a .m)) (verdict (now (a .m)) (a .used)) (x .examine .ensures .0)) ∙ ap plain (v .v .given .1) in
+    let s = c .before .before .before .before .before .before in
+    let a = s .args in
+    let q = sym (verdict-of (now (a .m)) (verdict (now (a .m)) (a .used)) (s .pre .0)) ∙ ap plain (c .before .v .given .1) in
     (sym (start-refused (now (a .m)) (a .used) (now (a .j)) (a .e) q), λ n e. absurd (refused (sym q ∙ e)))
 
 returns-2 : tie.Need-returns-2
 returns-2 c =
     let k = c .before .before in
     let v = k .before .before .before .before .before .before .before in
-    let a = v .before .before .before .before .before .before .before .before .before .before .args in
-    (sym (start-look (now (a .m)) (a .used) (now (a .j)) (a .e) (accepted v) (sym (k .look-up .ensures) ∙ c .enum-told .given .1)), known k)
+    let a = start v .args in
+    (sym (start-look (now (a .m)) (a .used) (now (a .j)) (a .e) (free v .0) (sym (k .look-up .ensures) ∙ c .enum-told .given .1)), ordered k)
 
 returns-3 : tie.Need-returns-3
 returns-3 c =
     let k = c .before .before .before in
     let v = k .before .before .before .before .before .before .before in
-    let a = v .before .before .before .before .before .before .before .before .before .before .args in
-    (sym (start-look (now (a .m)) (a .used) (now (a .j)) (a .e) (accepted v) (sym (k .look-up .ensures) ∙ c .before .look .given .1)), known k)
+    let a = start v .args in
+    (sym (start-look (now (a .m)) (a .used) (now (a .j)) (a .e) (free v .0) (sym (k .look-up .ensures) ∙ c .before .look .given .1)), ordered k)
 
 returns-4 : tie.Need-returns-4
 returns-4 c =
     let k = c .before .before .before in
     let v = k .before .before .before .before .before .before .before in
-    let a = v .before .before .before .before .before .before .before .before .before .before .args in
-    (ap (starts.New (v .v2 .given .0 .0) (c .before .look2 .given .0 .0)) (free v .1) ∙ sym (start-look (now (a .m)) (a .used) (now (a .j)) (a .e) (accepted v) (sym (k .look-up .ensures) ∙ c .before .look2 .given .1)), known k)
+    let a = start v .args in
+    (ap (starts.New (v .v2 .given .0 .0) (c .before .look2 .given .0 .0)) (free v .1) ∙ sym (start-look (now (a .m)) (a .used) (now (a .j)) (a .e) (free v .0) (sym (k .look-up .ensures) ∙ c .before .look2 .given .1)), ordered k)
 
 pub begin-spec : {M : Type 1} → statement M
 begin-spec =
     tie.close
     (tie.spec
-    examine-requires
     (λ c. search needs)
     (λ c. search needs)
     order-blocks-requires
@@ -98,14 +88,10 @@ begin-spec =
     (λ c. search needs)
     (λ c. search needs)
     (λ c. search needs)
-    (λ c. search needs)
     returns
-    (λ c. search needs)
     (λ c. search needs)
     returns-2
     (λ c. search needs)
-    (λ c. search needs)
     returns-3
-    (λ c. search needs)
     (λ c. search needs)
     returns-4)
