@@ -10,7 +10,7 @@
 --                               its entries, then its link
 --     slotsJudged m used n      7: the live slot at fault of lowest number
 --     afterIndex, verdict       5: the link of an index block, at the place where the link is stored; then 6, then 7
---     entriesJudgedOf f, symbolsJudgedOf f, slotsJudgedOf f, afterIndexOf f     the same of a family of maps (Rules); those without a family are of 6, 7 and 8
+--     entriesJudgedOf f, symbolsJudgedOf f, slotsJudgedOf f, afterIndexOf f     the same of a family (`judge`, Rules); those without a family are of 6, 7 and 8
 use Prim.Native.Nat.{ℕ, _*_}
 use mathlib.Core.Bool.{Bool, cond}
 use mathlib.Core.List.{List}

@@ -119,7 +119,7 @@ pub record OneAnswer : Type 0 where
   pub view : (bytes : RefT (List ℕ)) (used : ℕ) → One (View bytes used)
   pub find-in : (v : MapView) (w : Window) (l : List ℕ) → One (FindIn v w l)
   pub search-view : (m : List ℕ) (used : ℕ) (w : Window) (l : List ℕ) → One (SearchView m used w l)
-  -- edit
+  -- add, change and edit
   pub add : (m : List ℕ) (used : ℕ) (j : List ℕ) (e : ℕ) (o : List ℕ) → One (Edit (added m used j e o))
   pub remove : (m : List ℕ) (used : ℕ) (j : List ℕ) (e s : ℕ) → One (Edit (removed m used j e s))
   pub reinstate : (m : List ℕ) (used : ℕ) (j : List ℕ) (e s : ℕ) → One (Edit (reinstated m used j e s))

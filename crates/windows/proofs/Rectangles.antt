@@ -1,4 +1,4 @@
--- The laws of objects: an object's header and pairs depend on its bytes alone; the rectangle over one pair more; and that it is the least. Assumes nothing.
+-- The laws of the least rectangle: the rectangle over one pair more, and that it is the least. Assumes nothing.
 use Prim.Native.Nat.{ℕ, zero, suc, _+_, _-_, _*_, _^_, _≤_, _<_}
 use mathlib.Core.Bool.{Bool, true, false, cond}
 use mathlib.Core.Path.{_≡_, refl, ap, _∙_}

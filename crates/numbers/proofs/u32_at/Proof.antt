@@ -1,4 +1,4 @@
--- `le::u32_at` meets its contract: two sixteen-bit fields side by side are one of thirty-two.
+-- `numbers::u32_at` meets its contract: two sixteen-bit fields side by side are one of thirty-two.
 -- Assumes nothing.
 use borrow.Author.Needs.{needs}
 use native.Mathlib.Omega.{arith}
