@@ -11,61 +11,37 @@ from __future__ import annotations
 import argparse
 import io
 import json
-import math
 import os
-import re
 import sys
 from contextlib import suppress
-from typing import (
-    Any,
-    Callable,
-    Dict,
-    Iterable,
-    List,
-    NamedTuple,
-    NoReturn,
-    Optional,
-    Sequence,
-    TextIO,
-    Tuple,
-)
+from typing import Callable, List, Optional, Sequence, TextIO, Tuple
 
 from . import layout
+from .arguments import NEW_VERSION, STANDARD_INPUT, WrongUsage, make_parser, wants_json
 from .calls import add, check, reinstate, remove, room_for_add, search
 from .files import FileProblem, Files, file_problem
-from .layout import JOURNAL_LIMIT, MAP_LIMIT, MOST_RECORDS, OBJECT_LIMIT, Slot
+from .layout import JOURNAL_LIMIT, MAP_LIMIT, MOST_RECORDS, OBJECT_LIMIT
 from .library import LibraryError
-from .results import Done, DoneBefore, EditResult, Refused, refused
-from .store import DEFAULT_WAIT, Store, Wanted
-
-PROGRAM = "taffrail"
-JSON = "--json"
-
-DONE, REFUSED, UNUSABLE = 0, 1, 2  # the exit codes
-INTERRUPTED = 130
-
-NEW_VERSION = 8  # of a new map, unless another is asked for
+from .reports import (
+    DONE,
+    INTERRUPTED,
+    PROGRAM,
+    UNUSABLE,
+    Facts,
+    Report,
+    describe_map,
+    map_facts,
+    report_edit,
+    report_problem,
+    report_refused,
+    slot_lines,
+    table,
+)
+from .results import Done, EditResult, Refused, refused
+from .store import Store, Wanted
+from .wording import counted, readable
 
 JOURNAL_MALFORMED = 13
-STANDARD_INPUT = "-"
-
-Facts = Dict[str, Any]
-
-
-class WrongUsage(Exception):
-    """The words of a command do not go together. The usage, if any, is told before that."""
-
-    def __init__(self, message: str, usage: str = "") -> None:
-        super().__init__(message)
-        self.usage = usage
-
-
-class Report(NamedTuple):
-    """What a command has to say: its exit code, and the same in JSON and in plain text."""
-
-    exit_code: int
-    facts: Facts
-    text: str
 
 
 # The commands. Each takes the arguments and the store, and gives its report.
@@ -82,12 +58,12 @@ def run_new(given: argparse.Namespace, store: Store) -> Report:
         content = layout.empty_map(version)
         files.append((given.map, content))
         facts.update(map=given.map, version=version, length=len(content))
-        lines.append(f"new map {given.map}: OCAD {version}, {len(content)} bytes")
+        lines.append(f"new map {given.map}: OCAD {version}, {counted(len(content), 'byte')}")
     if given.journal is not None:
         records = MOST_RECORDS if given.records is None else given.records
         files.append((given.journal, layout.empty_journal(records)))
         facts.update(journal=given.journal, records=records)
-        lines.append(f"new journal {given.journal}: room for {records:,} edits")
+        lines.append(f"new journal {given.journal}: room for {counted(records, 'edit')}")
     store.create(files)
     return Report(DONE, facts, "\n".join(lines))
 
@@ -180,7 +156,7 @@ def run_show(given: argparse.Namespace, store: Store) -> Report:
         counts[slot.state] += 1
         if given.free or slot.state != "free":
             slots.append(slot)
-    facts = {
+    facts: Facts = {
         "result": "shown",
         **map_facts(contents),
         **counts,
@@ -190,6 +166,17 @@ def run_show(given: argparse.Namespace, store: Store) -> Report:
     line = f"{describe_map(contents)}; slots: {states}"
     return Report(DONE, facts, "\n".join([line, *slot_lines(slots)]))
 
+
+COMMANDS = {
+    "new": run_new,
+    "check": run_check,
+    "search": run_search,
+    "add": run_add,
+    "remove": run_remove,
+    "reinstate": run_reinstate,
+    "journal": run_journal,
+    "show": run_show,
+}
 
 EditCall = Callable[[bytearray, int, bytearray], EditResult]
 
@@ -253,199 +240,6 @@ def read_input(most: int) -> bytes:
     return sys.stdin.buffer.read(most)
 
 
-# Reports.
-
-
-def report_refused(answer: Refused, detail: str = "") -> Report:
-    facts: Facts = {
-        "result": "refused",
-        "number": answer.number,
-        "place": answer.place,
-        "words": answer.words,
-    }
-    if detail:
-        facts["detail"] = detail
-        return Report(REFUSED, facts, f"{answer} ({detail})")
-    return Report(REFUSED, facts, str(answer))
-
-
-def report_edit(answer: EditResult, edit: int) -> Report:
-    if isinstance(answer, Refused):
-        return report_refused(answer)
-    result = "done before" if isinstance(answer, DoneBefore) else "done"
-    facts = {"result": result, "edit": edit, "slot": answer.slot, "length": answer.length}
-    text = f"{result}: edit {edit}, slot {answer.slot}, map of {answer.length:,} bytes"
-    return Report(DONE, facts, text)
-
-
-def report_usage(problem: WrongUsage) -> Report:
-    report = report_problem(str(problem))
-    return report._replace(text=problem.usage + report.text)
-
-
-def report_problem(message: str) -> Report:
-    facts = {"result": "unusable", "message": message}
-    return Report(UNUSABLE, facts, f"{PROGRAM}: {message}")
-
-
-def map_facts(accepted_map: bytes) -> Facts:
-    return {
-        "version": layout.version_of(accepted_map),
-        "length": len(accepted_map),
-        "blocks": len(layout.block_places(accepted_map)),
-    }
-
-
-def describe_map(accepted_map: bytes) -> str:
-    facts = map_facts(accepted_map)
-    blocks = "1 index block" if facts["blocks"] == 1 else f"{facts['blocks']:,} index blocks"
-    return f"OCAD {facts['version']}, {facts['length']:,} bytes, {blocks}"
-
-
-def slot_lines(slots: Sequence[Slot]) -> List[str]:
-    headings = ("slot", "state", "Sym", "Len", "position", "left", "bottom", "right", "top")
-    return table(headings, slots)
-
-
-def table(headings: Sequence[str], rows: Sequence[Iterable[Any]]) -> List[str]:
-    """The lines of a table; no line at all where there is no row."""
-    if not rows:
-        return []
-    texts = [list(headings)] + [[str(cell) for cell in row] for row in rows]
-    widths = [max(len(text) for text in column) for column in zip(*texts)]
-    return [
-        "  ".join(text.rjust(width) for text, width in zip(line, widths)) for line in texts
-    ]
-
-
-# The arguments.
-
-
-def whole_number(lowest: int, highest: int) -> Callable[[str], int]:
-    """A reader of whole numbers within these two."""
-
-    def read(text: str) -> int:
-        if not re.fullmatch("-?[0-9]{1,20}", text):
-            raise argparse.ArgumentTypeError(f"{text!r} is not a whole number")
-        if not lowest <= int(text) <= highest:
-            raise argparse.ArgumentTypeError(f"{text} is not within {lowest} to {highest}")
-        return int(text)
-
-    return read
-
-
-def seconds(text: str) -> float:
-    """A reader of a time to wait."""
-    try:
-        time = float(text)
-    except ValueError:
-        time = math.nan
-    if not 0 <= time < math.inf:
-        raise argparse.ArgumentTypeError(f"{text!r} is not a number of seconds")
-    return time
-
-
-WORD = whole_number(0, 2**32 - 1)
-COORDINATE = whole_number(-(2**31), 2**31 - 1)
-
-
-class Parser(argparse.ArgumentParser):
-    """Raises what is wrong with the words, so that it is reported as other problems are."""
-
-    def error(self, message: str) -> NoReturn:
-        command = self.prog[len(PROGRAM) :].strip()
-        raise WrongUsage(f"{command}: {message}" if command else message, self.format_usage())
-
-
-def make_parser() -> Parser:
-    parser = Parser(
-        prog=PROGRAM,
-        description="OCAD 6, 7 and 8 maps: check, search and edit, under a journal of edits.",
-        epilog="Exit codes: 0 done or done before, 1 refused, 2 usage or files, 130 interrupted.",
-    )
-    commands = parser.add_subparsers(metavar="COMMAND", required=True)
-    common = make_common()
-
-    def command(name: str, run: Callable[[argparse.Namespace, Store], Report]) -> Any:
-        words = run.__doc__ or ""
-        made = commands.add_parser(name, parents=[common], help=words, description=words)
-        made.set_defaults(run=run)
-        return made
-
-    describe_new(command("new", run_new))
-    command("check", run_check).add_argument("map", metavar="MAP")
-    describe_search(command("search", run_search))
-    describe_add(command("add", run_add))
-    describe_slot_edit(command("remove", run_remove))
-    describe_slot_edit(command("reinstate", run_reinstate))
-    command("journal", run_journal).add_argument("journal", metavar="JOURNAL")
-    describe_show(command("show", run_show))
-    return parser
-
-
-def make_common() -> argparse.ArgumentParser:
-    """What every command takes."""
-    common = argparse.ArgumentParser(add_help=False)
-    common.add_argument(JSON, action="store_true", help="answer in JSON, for scripts")
-    waiting = common.add_mutually_exclusive_group()
-    waiting.add_argument(
-        "--wait",
-        type=seconds,
-        default=DEFAULT_WAIT,
-        metavar="SECONDS",
-        help="how long to wait for a locked file (%(default)s)",
-    )
-    waiting.add_argument(
-        "--no-wait",
-        dest="wait",
-        action="store_const",
-        const=0.0,
-        help="do not wait for a locked file",
-    )
-    return common
-
-
-def describe_new(new: argparse.ArgumentParser) -> None:
-    new.add_argument("map", metavar="MAP", nargs="?", help="the map to write")
-    new.add_argument(
-        "--version", type=int, choices=(6, 7, 8), help=f"of the map ({NEW_VERSION})"
-    )
-    new.add_argument("--journal", metavar="FILE", help="a journal to write")
-    new.add_argument(
-        "--records",
-        type=whole_number(0, MOST_RECORDS),
-        metavar="N",
-        help=f"how many edits the journal can hold ({MOST_RECORDS}, which is the most)",
-    )
-
-
-def describe_search(find: argparse.ArgumentParser) -> None:
-    find.add_argument("map", metavar="MAP")
-    for name, letter in (("left", "L"), ("bottom", "B"), ("right", "R"), ("top", "T")):
-        find.add_argument(name, metavar=letter, type=COORDINATE, help=f"{name}, in 0.01 mm")
-
-
-def describe_add(made: argparse.ArgumentParser) -> None:
-    describe_edit(made)
-    made.add_argument("object", metavar="FILE", help="the object's bytes; - for standard input")
-
-
-def describe_slot_edit(made: argparse.ArgumentParser) -> None:
-    describe_edit(made)
-    made.add_argument("--slot", type=WORD, required=True, metavar="S", help="the slot number")
-
-
-def describe_edit(made: argparse.ArgumentParser) -> None:
-    made.add_argument("map", metavar="MAP")
-    made.add_argument("journal", metavar="JOURNAL")
-    made.add_argument("--edit", type=WORD, required=True, metavar="N", help="the edit number")
-
-
-def describe_show(show: argparse.ArgumentParser) -> None:
-    show.add_argument("map", metavar="MAP")
-    show.add_argument("--free", action="store_true", help="list free slots too")
-
-
 # Running.
 
 
@@ -453,9 +247,9 @@ def main(arguments: Optional[Sequence[str]] = None, files: Optional[Files] = Non
     """Runs one command and gives its exit code. ``files`` makes the system calls."""
     words = sys.argv[1:] if arguments is None else list(arguments)
     try:
-        given = make_parser().parse_args(words)
+        given = make_parser(COMMANDS).parse_args(words)
     except WrongUsage as problem:
-        return tell(report_usage(problem), JSON in words)
+        return tell(report_problem(str(problem), problem.usage), wants_json(words))
     return tell(report_of(given, Store(files, given.wait)), given.json)
 
 
@@ -464,7 +258,7 @@ def report_of(given: argparse.Namespace, store: Store) -> Report:
     try:
         report: Report = given.run(given, store)
     except WrongUsage as problem:
-        return report_usage(problem)
+        return report_problem(str(problem), problem.usage)
     except (FileProblem, LibraryError) as problem:
         return report_problem(str(problem))
     except OSError as problem:
@@ -488,9 +282,14 @@ def tell(report: Report, as_json: bool) -> int:
 def write(report: Report, as_json: bool) -> None:
     """JSON goes to standard output; text does where all is well, else to standard error."""
     if as_json:
-        print(json.dumps(report.facts), flush=True)
+        # names of files stand in facts of their own, not in lists
+        facts = {
+            name: readable(fact) if isinstance(fact, str) else fact
+            for name, fact in report.facts.items()
+        }
+        print(json.dumps(facts), flush=True)
     elif report.exit_code == DONE:
-        print(report.text, flush=True)
+        print(readable(report.text), flush=True)
     else:
         complain(report.text)
 
@@ -500,7 +299,7 @@ def complain(text: str) -> None:
     if sys.stderr is None:
         return
     try:
-        print(text, file=sys.stderr, flush=True)
+        print(readable(text), file=sys.stderr, flush=True)
     except OSError:
         silence(sys.stderr)
 

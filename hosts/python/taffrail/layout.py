@@ -7,8 +7,11 @@ accepted; nothing here replaces its check.
 
 from __future__ import annotations
 
+import operator
 import struct
 from typing import Iterator, List, NamedTuple, Sequence
+
+from .wording import counted, one_of
 
 MAP_LIMIT = 16_777_216  # the most bytes of a map
 JOURNAL_LIMIT = 65_536  # the most bytes of a journal
@@ -26,7 +29,7 @@ OBJECT_LIMIT = OBJECT_HEADER_SIZE + PAIR_SIZE * MOST_PAIRS
 MOST_RECORDS = JOURNAL_LIMIT // RECORD_SIZE
 
 MARK = 3245
-SECTION_MARKS = {6: 0, 7: 7, 8: 2}  # of a new map; 8 with 3 is accepted too
+SECTION_MARKS = {6: (0,), 7: (7,), 8: (2, 3)}  # of each version; a new map has the first
 KINDS = {1: "add", 2: "remove", 3: "reinstate"}
 
 _NEW_HEADER = struct.Struct("<4H40x")  # mark, section mark, version, subversion
@@ -66,11 +69,15 @@ class JournalFault(ValueError):
 
 def empty_map(version: int) -> bytes:
     """A map of this version (6, 7 or 8) with no symbol and no slot."""
-    return _NEW_HEADER.pack(MARK, SECTION_MARKS[version], version, 0)
+    if operator.index(version) not in SECTION_MARKS:
+        raise ValueError(f"a map has version {one_of(SECTION_MARKS)}, not {version}")
+    return _NEW_HEADER.pack(MARK, SECTION_MARKS[version][0], version, 0)
 
 
 def empty_journal(records: int) -> bytes:
-    """A journal with room for this many edits."""
+    """A journal with room for this many edits, 4,096 at most."""
+    if not 0 <= operator.index(records) <= MOST_RECORDS:
+        raise ValueError(f"a journal has 0 to {MOST_RECORDS:,} records, not {records}")
     return bytes(RECORD_SIZE * records)
 
 
@@ -127,7 +134,7 @@ def read_journal(journal: bytes) -> List[Record]:
     if len(journal) > JOURNAL_LIMIT:
         raise JournalFault(f"it is longer than {JOURNAL_LIMIT:,} bytes")
     if len(journal) % RECORD_SIZE != 0:
-        raise JournalFault(f"{len(journal):,} bytes are no multiple of {RECORD_SIZE}")
+        raise JournalFault(f"{counted(len(journal), 'byte')}, which is no multiple of {RECORD_SIZE}")
     used = _used_records(journal)
     if any(journal[RECORD_SIZE * used :]):
         raise JournalFault(f"record {used} is unused, but a byte after it is not zero")
