@@ -11,6 +11,7 @@ from contextlib import redirect_stderr, redirect_stdout
 from support_host import FolderTest, Ran, command_line, environment, run
 
 from taffrail import cli
+from taffrail.arguments import make_parser
 
 DONE, UNUSABLE = 0, 2
 
@@ -58,7 +59,7 @@ class BeforeTheCommand(ArgumentsTest):
 
     def test_waiting(self) -> None:
         """The last word on waiting holds."""
-        parser = cli.make_parser(cli.COMMANDS)
+        parser = make_parser(cli.COMMANDS)
         for words, wait in (
             (["check", "m"], 60.0),
             (["--wait", "5", "check", "m"], 5.0),

@@ -10,11 +10,10 @@ from __future__ import annotations
 
 import argparse
 import io
-import json
 import os
 import sys
 from contextlib import suppress
-from typing import Callable, List, Optional, Sequence, TextIO, Tuple
+from typing import List, Optional, Sequence, Tuple
 
 from . import layout
 from .arguments import NEW_VERSION, STANDARD_INPUT, WrongUsage, make_parser, wants_json
@@ -22,26 +21,29 @@ from .calls import add, check, reinstate, remove, room_for_add, search
 from .files import FileProblem, Files, file_problem
 from .layout import JOURNAL_LIMIT, MAP_LIMIT, MOST_RECORDS, OBJECT_LIMIT
 from .library import LibraryError
+from .output import complain, tell
+from .reasons import Asked, nearly_full, reason_of_check, reason_of_edit, reason_of_search
 from .reports import (
     DONE,
     INTERRUPTED,
     PROGRAM,
-    UNUSABLE,
     Facts,
     Report,
     describe_map,
     map_facts,
-    report_edit,
+    report_done,
     report_problem,
     report_refused,
     slot_lines,
     table,
+    with_warning,
 )
 from .results import Done, EditResult, Refused, refused
 from .store import Store, Wanted
-from .wording import counted, readable
+from .wording import counted
 
-JOURNAL_MALFORMED = 13
+OBJECT_MALFORMED = 10
+JOURNAL_MALFORMED = 13  # and those above it are about the journal too
 
 
 # The commands. Each takes the arguments and the store, and gives its report.
@@ -73,7 +75,7 @@ def run_check(given: argparse.Namespace, store: Store) -> Report:
     contents = read_map(given.map, store)
     answer = check(contents)
     if isinstance(answer, Refused):
-        return report_refused(answer)
+        return report_bad_map(answer, given.map, contents)
     facts = {"result": "accepted", **map_facts(contents)}
     return Report(DONE, facts, f"accepted: {describe_map(contents)}")
 
@@ -81,9 +83,11 @@ def run_check(given: argparse.Namespace, store: Store) -> Report:
 def run_search(given: argparse.Namespace, store: Store) -> Report:
     """List the live slots that meet a window."""
     contents = read_map(given.map, store)
-    answer = search(contents, given.left, given.bottom, given.right, given.top)
+    window = (given.left, given.bottom, given.right, given.top)
+    answer = search(contents, *window)
     if isinstance(answer, Refused):
-        return report_refused(answer)
+        reason = reason_of_search(answer, contents, window, os.path.basename(given.map))
+        return report_refused(answer, given.map, reason)
     places = layout.block_places(contents)
     slots = [layout.slot_at(contents, places, number) for number in answer.slots]
     facts = {
@@ -98,30 +102,17 @@ def run_search(given: argparse.Namespace, store: Store) -> Report:
 
 def run_add(given: argparse.Namespace, store: Store) -> Report:
     """Add an object from a file or from standard input."""
-    offered = read_object(given.object)
-
-    def call(map_buffer: bytearray, used: int, journal: bytearray) -> EditResult:
-        return add(map_buffer, journal, given.edit, offered, used=used)
-
-    return run_edit(given, store, room_for_add(offered), call)
+    return run_edit(given, store, "add", offered=read_object(given.object))
 
 
 def run_remove(given: argparse.Namespace, store: Store) -> Report:
     """Remove the object of a live slot."""
-
-    def call(map_buffer: bytearray, used: int, journal: bytearray) -> EditResult:
-        return remove(map_buffer, journal, given.edit, given.slot, used=used)
-
-    return run_edit(given, store, 0, call)
+    return run_edit(given, store, "remove", slot=given.slot)
 
 
 def run_reinstate(given: argparse.Namespace, store: Store) -> Report:
     """Make an erased slot live again."""
-
-    def call(map_buffer: bytearray, used: int, journal: bytearray) -> EditResult:
-        return reinstate(map_buffer, journal, given.edit, given.slot, used=used)
-
-    return run_edit(given, store, 0, call)
+    return run_edit(given, store, "reinstate", slot=given.slot)
 
 
 def run_journal(given: argparse.Namespace, store: Store) -> Report:
@@ -130,7 +121,8 @@ def run_journal(given: argparse.Namespace, store: Store) -> Report:
     try:
         records = layout.read_journal(contents)
     except layout.JournalFault as fault:
-        return report_refused(refused(JOURNAL_MALFORMED), str(fault))
+        report = report_refused(refused(JOURNAL_MALFORMED), given.journal, str(fault))
+        return report._replace(facts={**report.facts, "detail": str(fault)})
     size = len(contents) // layout.RECORD_SIZE
     facts = {
         "result": "listed",
@@ -149,7 +141,7 @@ def run_show(given: argparse.Namespace, store: Store) -> Report:
     contents = read_map(given.map, store)
     answer = check(contents)
     if isinstance(answer, Refused):
-        return report_refused(answer)
+        return report_bad_map(answer, given.map, contents)
     counts = {"live": 0, "erased": 0, "free": 0}
     slots = []
     for slot in layout.all_slots(contents):
@@ -178,21 +170,54 @@ COMMANDS = {
     "show": run_show,
 }
 
-EditCall = Callable[[bytearray, int, bytearray], EditResult]
 
-
-def run_edit(given: argparse.Namespace, store: Store, room: int, call: EditCall) -> Report:
+def run_edit(
+    given: argparse.Namespace, store: Store, kind: str, slot: int = 0, offered: bytes = b""
+) -> Report:
     """One edit on a pair of files, saved only where it was done now."""
     wanted = (Wanted(given.map, MAP_LIMIT + 1), Wanted(given.journal, JOURNAL_LIMIT + 1))
     with store.edit(*wanted) as group:
         old_map, old_journal = group.contents
         refuse_too_long(given.map, old_map)
-        map_buffer = bytearray(old_map) + bytes(room)
+        asked = Asked(old_map, old_journal, given.edit, kind, slot, offered)
+        map_buffer = bytearray(old_map) + bytes(room_for_add(offered) if kind == "add" else 0)
         journal = bytearray(old_journal)
-        answer = call(map_buffer, len(old_map), journal)
+        answer = call_edit(asked, map_buffer, journal)
         if isinstance(answer, Done):
             group.save(bytes(map_buffer[: answer.length]), bytes(journal))
-    return report_edit(answer, given.edit)
+    if isinstance(answer, Refused):
+        reason = reason_of_edit(answer, asked, os.path.basename(given.map))
+        return report_refused(answer, file_at_fault(answer, given), reason)
+    report = report_done(answer, given.edit)
+    return warn_of_full(report, given, journal) if isinstance(answer, Done) else report
+
+
+def call_edit(asked: Asked, map_buffer: bytearray, journal: bytearray) -> EditResult:
+    """The library's answer to what is asked."""
+    used = len(asked.map)
+    if asked.kind == "add":
+        return add(map_buffer, journal, asked.edit, asked.offered, used=used)
+    call = remove if asked.kind == "remove" else reinstate
+    return call(map_buffer, journal, asked.edit, asked.slot, used=used)
+
+
+def file_at_fault(answer: Refused, given: argparse.Namespace) -> str:
+    """The file of an edit that a refusal is about."""
+    if answer.number == OBJECT_MALFORMED:
+        return "standard input" if given.object == STANDARD_INPUT else str(given.object)
+    return str(given.journal if answer.number >= JOURNAL_MALFORMED else given.map)
+
+
+def warn_of_full(report: Report, given: argparse.Namespace, journal: bytes) -> Report:
+    """Says it where the edit has left its journal nearly full."""
+    used, size = layout.used_records(journal), len(journal) // layout.RECORD_SIZE
+    warning = nearly_full(used, size)
+    return with_warning(report, given.journal, warning, records_left=size - used)
+
+
+def report_bad_map(answer: Refused, path: str, contents: bytes) -> Report:
+    reason = reason_of_check(answer, contents, os.path.basename(path))
+    return report_refused(answer, path, reason)
 
 
 # Reading what a command is given.
@@ -264,51 +289,6 @@ def report_of(given: argparse.Namespace, store: Store) -> Report:
     except OSError as problem:
         return report_problem(f"{problem.filename or 'system'}: {problem.strerror}")
     return report
-
-
-def tell(report: Report, as_json: bool) -> int:
-    """Writes the report and gives the exit code."""
-    try:
-        write(report, as_json)
-    except BrokenPipeError:
-        silence(sys.stdout)  # the reader has seen enough, as head does
-    except OSError as problem:
-        silence(sys.stdout)
-        complain(f"{PROGRAM}: standard output: {problem.strerror}")
-        return UNUSABLE
-    return report.exit_code
-
-
-def write(report: Report, as_json: bool) -> None:
-    """JSON goes to standard output; text does where all is well, else to standard error."""
-    if as_json:
-        # names of files stand in facts of their own, not in lists
-        facts = {
-            name: readable(fact) if isinstance(fact, str) else fact
-            for name, fact in report.facts.items()
-        }
-        print(json.dumps(facts), flush=True)
-    elif report.exit_code == DONE:
-        print(readable(report.text), flush=True)
-    else:
-        complain(report.text)
-
-
-def complain(text: str) -> None:
-    """Says this on standard error. Where that cannot be written the exit code has to do."""
-    if sys.stderr is None:
-        return
-    try:
-        print(readable(text), file=sys.stderr, flush=True)
-    except OSError:
-        silence(sys.stderr)
-
-
-def silence(stream: TextIO) -> None:
-    """Lets what is still to be written go nowhere, so that Python ends without a complaint."""
-    nowhere = os.open(os.devnull, os.O_WRONLY)
-    os.dup2(nowhere, stream.fileno())
-    os.close(nowhere)
 
 
 def run() -> None:

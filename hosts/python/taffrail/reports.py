@@ -2,11 +2,11 @@
 
 from __future__ import annotations
 
-from typing import Any, Dict, Iterable, List, NamedTuple, Sequence
+from typing import Any, Dict, Iterable, List, NamedTuple, Sequence, Union
 
 from . import layout
 from .layout import Slot
-from .results import DoneBefore, EditResult, Refused
+from .results import Done, DoneBefore, Refused
 from .wording import counted
 
 PROGRAM = "taffrail"
@@ -18,33 +18,43 @@ Facts = Dict[str, Any]
 
 
 class Report(NamedTuple):
-    """What a command has to say: its exit code, and the same in JSON and in plain text."""
+    """What a command has to say: its exit code, and the same in JSON and in plain text. A
+    warning is for people, and stands among the facts too."""
 
     exit_code: int
     facts: Facts
     text: str
+    warning: str = ""
 
 
-def report_refused(answer: Refused, detail: str = "") -> Report:
+def report_refused(answer: Refused, file: str, reason: str) -> Report:
+    """A refusal on account of this file; without a reason the number's own words have to do."""
     facts: Facts = {
         "result": "refused",
         "number": answer.number,
         "place": answer.place,
         "words": answer.words,
+        "file": file,
+        "reason": reason or answer.words,
     }
-    if detail:
-        facts["detail"] = detail
-        return Report(REFUSED, facts, f"{answer} ({detail})")
-    return Report(REFUSED, facts, str(answer))
+    text = f"{file}: refused {answer.number} at {answer.place}: {facts['reason']}"
+    return Report(REFUSED, facts, text)
 
 
-def report_edit(answer: EditResult, edit: int) -> Report:
-    if isinstance(answer, Refused):
-        return report_refused(answer)
+def report_done(answer: Union[Done, DoneBefore], edit: int) -> Report:
     result = "done before" if isinstance(answer, DoneBefore) else "done"
     facts = {"result": result, "edit": edit, "slot": answer.slot, "length": answer.length}
     text = f"{result}: edit {edit}, slot {answer.slot}, map of {answer.length:,} bytes"
     return Report(DONE, facts, text)
+
+
+def with_warning(report: Report, file: str, warning: str, **facts: Any) -> Report:
+    """The report with a warning about this file, and what a script may want to know of it."""
+    if not warning:
+        return report
+    told = f"{file}: {warning}"
+    facts = {**report.facts, "warning": told, **facts}
+    return report._replace(facts=facts, warning=f"{PROGRAM}: {told}")
 
 
 def report_problem(message: str, before: str = "") -> Report:

@@ -11,10 +11,10 @@ def counted(count: int, thing: str) -> str:
     return f"{count:,} {thing}" if count == 1 else f"{count:,} {thing}s"
 
 
-def one_of(things: Iterable[object]) -> str:
-    """Which one it can be: ``6, 7 or 8``."""
+def listed(things: Iterable[object], word: str = "or") -> str:
+    """All of them: ``6, 7 or 8``."""
     *some, last = map(str, things)
-    return f"{', '.join(some)} or {last}" if some else last
+    return f"{', '.join(some)} {word} {last}" if some else last
 
 
 def readable(text: str) -> str:
