@@ -1,4 +1,5 @@
-"""hosts/build and the gate where the toolchain is missing or another one, and while it proves.
+"""hosts/build and the gate where the toolchain is missing or another one, and while it proves;
+hosts/test with a number of cases that is none.
 
 A small script stands in for rt; nothing is proved or built here.
 """
@@ -45,9 +46,10 @@ class Toolchain(unittest.TestCase):
         path.chmod(0o755)
         (self.tools / "env").symlink_to("/usr/bin/env")
 
-    def assert_one_line(self, script: str, *words: str) -> None:
+    def one_line_of(self, script: str, *words: str) -> str:
+        """What the script says before it ends with 2."""
         ended = subprocess.run(
-            [shutil.which("bash") or "bash", ROOT / script],
+            [shutil.which("bash") or "bash", ROOT / script, *words],
             env=self.environment(),
             capture_output=True,
             text=True,
@@ -56,19 +58,30 @@ class Toolchain(unittest.TestCase):
         )
         self.assertEqual((ended.returncode, ended.stdout), (2, ""), ended.stderr)
         self.assertEqual(ended.stderr.count("\n"), 1, ended.stderr)
+        return ended.stderr
+
+    def assert_told(self, script: str, *words: str) -> None:
+        said = self.one_line_of(script)
         for word in (f"{script}: ", KIT, ".ci/kit", *words):
-            self.assertIn(word, ended.stderr)
+            self.assertIn(word, said)
 
     def test_no_toolchain(self) -> None:
         for script in SCRIPTS:
             with self.subTest(script=script):
-                self.assert_one_line(script, "there is no rt on the path", "install the kit")
+                self.assert_told(script, "there is no rt on the path", "install the kit")
 
     def test_another_toolchain(self) -> None:
         self.put_rt("rattle-kit-0 logic 0", "exit 1")
         for script in SCRIPTS:
             with self.subTest(script=script):
-                self.assert_one_line(script, "this is 'rattle-kit-0 logic 0'", "install that kit")
+                self.assert_told(script, "this is 'rattle-kit-0 logic 0'", "install that kit")
+
+    def test_a_number_of_cases_that_is_none(self) -> None:
+        """It is told before anything is built."""
+        for words in (["many"], ["-5"], ["1.5"], ["5", "6"]):
+            with self.subTest(words=words):
+                said = self.one_line_of("hosts/test", *words)
+                self.assertTrue(said.startswith("usage: hosts/test [CASES]"), said)
 
     def test_progress(self) -> None:
         """A crate that is proved is told before the next one is done."""

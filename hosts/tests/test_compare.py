@@ -3,13 +3,10 @@
 from __future__ import annotations
 
 import io
-import subprocess
 import unittest
 from contextlib import redirect_stdout
 from typing import Tuple
 from unittest import mock
-
-from support_host import PACKAGE_FOLDER
 
 import compare
 
@@ -38,21 +35,6 @@ class Coverage(unittest.TestCase):
         code, said = self.compared(compare.CASES, 30)
         self.assertEqual(code, 1, said)
         self.assertIn("too seldom:", said)
-
-
-class TheScript(unittest.TestCase):
-    def test_a_number_that_is_none(self) -> None:
-        """It is told before anything is built."""
-        for words in (["many"], ["-5"], ["1.5"], ["5", "6"]):
-            with self.subTest(words=words):
-                ended = subprocess.run(
-                    [PACKAGE_FOLDER.parent / "test", *words],
-                    capture_output=True,
-                    timeout=60,
-                    check=False,
-                )
-                self.assertEqual((ended.returncode, ended.stdout), (2, b""))
-                self.assertTrue(ended.stderr.startswith(b"usage: hosts/test [CASES]"))
 
 
 if __name__ == "__main__":

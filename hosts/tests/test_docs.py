@@ -113,15 +113,17 @@ class Refusals(FolderTest):
         struct.pack_into("<i", contents, 12, 25_740)
         rectangle = [256 * side for side in (8_000_000, 0, 611_392, 0)]
         struct.pack_into("<5iHh", contents, 25_768, *rectangle, 48, 40, 101)
-        whole, cut, old = bytes(contents), bytes(contents[:-1]), bytearray(contents)
-        struct.pack_into("<H", old, 4, 9)
-        files = {"forest.ocd": [whole, cut], "old.ocd": [old], "README.md": [b"# ".ljust(48)]}
-        shown = re.findall(r"^    (\S+: refused \d+ at .*)$", PACKAGE, re.MULTILINE)
+        old = bytes(contents[:4]) + struct.pack("<H", 9) + bytes(contents[6:])
         said = []
-        for name, kinds in files.items():
-            for kind in kinds:
-                (self.folder / name).write_bytes(kind)
-                said.append(run("check", name, folder=self.folder).err.rstrip("\n"))
+        for name, data in (
+            ("forest.ocd", bytes(contents)),
+            ("forest.ocd", bytes(contents[:-1])),
+            ("old.ocd", old),
+            ("README.md", b"# ".ljust(48)),
+        ):
+            (self.folder / name).write_bytes(data)
+            said.append(run("check", name, folder=self.folder).err.rstrip("\n"))
+        shown = re.findall(r"^    (\S+: refused \d+ at .*)$", PACKAGE, re.MULTILINE)
         self.assertEqual(said, shown)
 
 
