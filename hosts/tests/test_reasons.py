@@ -165,6 +165,10 @@ class EditWords(unittest.TestCase):
         self.map += bytes(16_777_216 - 39 - len(self.map))
         words = "the map would have 16,777,217 bytes, and 16,777,216 are the most"
         self.assert_reason(11, words, "add", 2, offered=object_bytes())
+        self.map[:48] = taffrail.empty_map(7)  # without a block, so that one is needed
+        self.journal = bytearray(32)
+        words = "the map would have 16,783,365 bytes, and 16,777,216 are the most"
+        self.assert_reason(11, words, "add", 2, offered=object_bytes())
 
     def test_slots(self) -> None:
         words = "slot 256 is missing, the map has slots 0 to 255"
@@ -239,6 +243,22 @@ class EditWords(unittest.TestCase):
             f" can send an edit of this one again: {forgets}"
         )
         self.assert_reason(15, words, "remove", 5_000, slot=0)
+
+    def test_nothing_is_wrong(self) -> None:
+        """Nothing is said of an edit that can be done, whatever the number."""
+        pair = bytes(self.map), bytes(self.journal)
+        longest = object_bytes([(1, 1)] * 8_187)
+        for asked in (
+            Asked(*pair, 2, "add", offered=longest),
+            Asked(*pair, 1, "add", offered=object_bytes()),
+            Asked(*pair, 2, "remove", slot=0),
+        ):
+            self.assertNotIsInstance(edit_of(asked, 80_000), Refused)
+            for number in range(16):
+                if number == 10 and asked.kind != "add" or number == 12 and asked.kind == "add":
+                    continue
+                answer = Refused(number, 0, "")
+                self.assertEqual(reason_of_edit(answer, asked), "", (number, asked.kind))
 
     def test_windows(self) -> None:
         contents = bytes(self.map)
@@ -389,12 +409,14 @@ class Agreement(unittest.TestCase):
 
     def test_other_places(self) -> None:
         """A fault at one place is no reason for a refusal at another."""
-        contents, _ = small_map()
-        struct.pack_into("<i", contents, slot_place(0) + 16, 47)
-        for place in (*range(0, 92), *range(93, 300)):
-            for number in (4, 5, 6, 7):
-                answer = Refused(number, place, taffrail.WORDS[number])
-                self.assertEqual(reason_of_check(answer, bytes(contents)), "")
+        for number, right, at, wrong in ((7, 92, 92 + 16, 47), (5, 88, 88, 7), (6, 8, 8, 88)):
+            contents, _ = small_map()
+            struct.pack_into("<i", contents, at, wrong)
+            answer = taffrail.check(contents)
+            self.assertEqual(answer, Refused(number, right, taffrail.WORDS[number]))
+            for place in range(300):
+                found = reason_of_check(Refused(number, place, ""), bytes(contents))
+                self.assertEqual(found != "", place == right, (number, place))
 
     def test_any_bytes(self) -> None:
         """A reason can be asked for with any number, place and bytes, also wrong ones."""

@@ -10,7 +10,7 @@ A map is given as its own bytes, without the room behind it.
 
 from __future__ import annotations
 
-from typing import List, NamedTuple, Sequence
+from typing import Iterator, List, NamedTuple, Sequence
 
 from . import faults, layout
 from .layout import (
@@ -109,7 +109,7 @@ def object_reason(asked: Asked) -> str:
 def room_reason(asked: Asked) -> str:
     """11: how long the map would be. What room its buffer has is not known here."""
     length = len(asked.map) + len(asked.offered)
-    if length <= MAP_LIMIT and not any(slot.state == "free" for slot in slots_of(asked.map)):
+    if not any(slot.state == "free" for slot in slots_of(asked.map)):
         length += INDEX_BLOCK_SIZE
     if length <= MAP_LIMIT:
         return ""
@@ -233,12 +233,10 @@ def missing_reason(number: int, blocks: Sequence[int]) -> str:
     return f"slot {number} is missing, {has}"
 
 
-def slots_of(contents: bytes) -> List[Slot]:
+def slots_of(contents: bytes) -> Iterator[Slot]:
     blocks = faults.index_chain(contents).blocks
-    return [
-        layout.slot_at(contents, blocks, number)
-        for number in range(SLOTS_IN_BLOCK * len(blocks))
-    ]
+    for number in range(SLOTS_IN_BLOCK * len(blocks)):
+        yield layout.slot_at(contents, blocks, number)
 
 
 def records_of(journal: bytes) -> List[Record]:
