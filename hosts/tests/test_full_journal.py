@@ -24,6 +24,8 @@ class WhenItIsTold(unittest.TestCase):
         self.assertEqual(self.told(4_096), [3_687, 4_093, 4_094, 4_095, 4_096])
         self.assertEqual(self.told(100), [90, 97, 98, 99, 100])
         self.assertEqual(self.told(10), [7, 8, 9, 10])
+        self.assertEqual(self.told(5), [3, 4, 5])
+        self.assertEqual(self.told(2), [2])
         self.assertEqual(self.told(1), [1])
 
     def test_words(self) -> None:
@@ -51,27 +53,28 @@ class OnTheCommandLine(FolderTest):
 
     def test_nearly_full(self) -> None:
         """The edit is done and says so; the warning is for people."""
-        ran = self.add_bridge()
-        self.assertEqual((ran.code, ran.err), (DONE, ""))
-        ran = self.flip(2)
-        self.assertEqual(ran.out, "done: edit 2, slot 0, map of 6,236 bytes\n")
+        for ran in (self.add_bridge(), self.flip(2)):
+            self.assertEqual((ran.code, ran.err), (DONE, ""))
+        ran = self.flip(3)
+        self.assertEqual(ran.out, "done: edit 3, slot 0, map of 6,236 bytes\n")
         self.assertEqual(ran.code, DONE)
         self.assertTrue(
-            ran.err.startswith(f"taffrail: {self.journal}: 2 of 5 records are used. "), ran.err
+            ran.err.startswith(f"taffrail: {self.journal}: 3 of 5 records are used. "), ran.err
         )
         self.assertIn(FORGETS, ran.err)
-        ran = self.flip(3, "--json")
+        ran = self.flip(4, "--json")
         facts = ran.json()
         self.assertEqual((ran.code, ran.err, facts["result"]), (DONE, "", "done"))
-        self.assertEqual(facts["records_left"], 2)
-        self.assertIn(f"{self.journal}: 3 of 5 records are used", facts["warning"])
+        self.assertEqual(facts["records_left"], 1)
+        self.assertIn(f"{self.journal}: 4 of 5 records are used", facts["warning"])
 
     def test_a_repeat_tells_nothing(self) -> None:
         self.add_bridge()
         self.flip(2)
-        ran = self.flip(2)
+        self.assertNotEqual(self.flip(3).err, "")
+        ran = self.flip(3)
         self.assertEqual((ran.code, ran.out[:11], ran.err), (DONE, "done before", ""))
-        self.assertNotIn("warning", self.flip(2, "--json").json())
+        self.assertNotIn("warning", self.flip(3, "--json").json())
 
     def test_a_full_journal_made_longer(self) -> None:
         """It takes edits again, and still knows the old ones."""

@@ -1,8 +1,8 @@
 """Where the fields of maps and journals lie, by document 01.
 
-The library judges and edits. This module makes empty maps and journals, and reads slots and
-journal records for people to look at. Slots are read only from a map that the library has
-accepted; nothing here replaces its check.
+The library judges and edits. This module makes empty maps and journals, and reads fields, slots
+and journal records for people to look at; nothing here replaces the library's check. Slots are
+read only from a map whose index blocks are good, as those of an accepted map are.
 """
 
 from __future__ import annotations

@@ -194,9 +194,10 @@ def full_reason(asked: Asked) -> str:
 
 def nearly_full(used: int, size: int) -> str:
     """What the edit that took the last of so many used records has to say of its journal: the
-    one with which nine in ten are used, and the last few."""
+    one with which nine in ten are used, and the last few where more are used than are left."""
     reaches = 10 * (used - 1) < 9 * size <= 10 * used
-    if not reaches and size - used > FEW_LEFT:
+    few = size - used <= FEW_LEFT and size - used < used
+    if not reaches and not few:
         return ""
     if used == size:
         return f"{used_up(size)}, so that the next edit will be refused. {what_to_do(size)}"
