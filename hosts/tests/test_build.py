@@ -16,8 +16,7 @@ from typing import Dict
 
 ROOT = Path(__file__).resolve().parent.parent.parent
 KIT = (ROOT / ".ci" / "kit").read_text().strip()
-TOOLS = ("bash", "cat", "dirname", "head", "mkdir", "mktemp", "readlink", "rm", "sed", "tail")
-MORE_TOOLS = ("tee", "uname")
+TOOLS = "bash cat dirname head mkdir mktemp readlink rm sed tail tee uname".split()
 SCRIPTS = ("hosts/build", "hosts/test", ".ci/run")
 
 
@@ -27,7 +26,7 @@ class Toolchain(unittest.TestCase):
         self.addCleanup(shutil.rmtree, self.folder, ignore_errors=True)
         self.tools = self.folder / "tools"
         self.tools.mkdir()
-        for name in TOOLS + MORE_TOOLS:
+        for name in TOOLS:
             found = shutil.which(name)
             assert found is not None, name
             (self.tools / name).symlink_to(found)
