@@ -39,9 +39,8 @@ class CliTest(FolderTest):
         self.assertEqual(ran, Ran(DONE, out, ""))
 
     def assert_refused(self, ran: Ran, number: int, place: int = 0) -> None:
-        words = taffrail.WORDS[number]
         self.assertEqual((ran.code, ran.out), (REFUSED, ""), ran.err)
-        self.assertTrue(ran.err.startswith(f"refused {number} at {place}: {words}"), ran.err)
+        self.assertRegex(ran.err, rf"^[^\n]+: refused {number} at {place}: [^\n]+\n$")
 
     def assert_unusable(self, ran: Ran, *words: object) -> None:
         self.assertEqual((ran.code, ran.out), (UNUSABLE, ""), ran.err)
@@ -239,6 +238,7 @@ class Json(CliTest):
         ran = self.remove(1, 0, "--json")
         self.assertEqual((ran.code, ran.err), (REFUSED, ""))
         refused = {"result": "refused", "number": 12, "place": 0, "words": taffrail.WORDS[12]}
+        refused.update(file=str(self.map), reason="slot 0 is missing, the map has no slot")
         self.assertEqual(ran.json(), refused)
         ran = run("check", self.folder / "missing", "--json")
         self.assertEqual((ran.code, ran.err), (UNUSABLE, ""))
@@ -272,7 +272,7 @@ class Json(CliTest):
 
 
 class Refusals(CliTest):
-    """Refusals name number, place and words, end with 1, and write nothing."""
+    """Refusals name file, number, place and reason, end with 1, and write nothing."""
 
     def setUp(self) -> None:
         super().setUp()

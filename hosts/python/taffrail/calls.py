@@ -100,8 +100,8 @@ def search_into(
     window = _window(left, bottom, right, top)
     answer = library.in_use().search(map_buffer, _used(map_buffer, used), window, slots)
     if answer.number != 0:
-        return refused(answer.number, answer.place, answer.count)
-    return Listed(answer.count, answer.blocks)
+        return refused(answer.number, answer.place, answer.found)
+    return Listed(answer.found, answer.blocks)
 
 
 def add(
