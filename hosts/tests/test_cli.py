@@ -664,8 +664,8 @@ class Output(CliTest):
         child.stderr.close()
         self.assertEqual(child.wait(), DONE)
 
-    def assert_code_on_a_full_disk(self, code: int, *words: object) -> None:
-        """The exit code where the answer cannot be written."""
+    def assert_code_on_a_full_disk(self, code: int, *words: object) -> bytes:
+        """The exit code where the answer cannot be written. Gives what is told of it."""
         with open("/dev/full", "wb") as full:
             ended = subprocess.run(
                 command_line(*words),
@@ -677,6 +677,7 @@ class Output(CliTest):
         self.assertEqual(ended.returncode, code)
         self.assertIn(b"No space left", ended.stderr)
         self.assertNotIn(b"Traceback", ended.stderr)
+        return ended.stderr
 
     @unittest.skipUnless(os.path.exists("/dev/full"), "there is no /dev/full")
     def test_a_full_disk(self) -> None:
@@ -695,6 +696,14 @@ class Output(CliTest):
         self.assertEqual(other.read_bytes(), layout.empty_map(8))
         refused = ("remove", self.map, self.journal, "--edit", 3, "--slot", 0, "--json")
         self.assert_code_on_a_full_disk(UNUSABLE, *refused)
+
+    @unittest.skipUnless(os.path.exists("/dev/full"), "there is no /dev/full")
+    def test_a_full_disk_and_a_warning(self) -> None:
+        """A journal that is nearly full is told nevertheless."""
+        self.make_pair(records=1)
+        words = ("add", self.map, self.journal, "--edit", 1, self.object)
+        told = self.assert_code_on_a_full_disk(FAILED_AFTERWARDS, *words)
+        self.assertIn(b"its one record is used", told)
 
     @unittest.skipUnless(os.path.exists("/dev/full"), "there is no /dev/full")
     def test_standard_error_that_cannot_be_written(self) -> None:

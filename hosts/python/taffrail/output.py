@@ -12,7 +12,15 @@ from .wording import readable
 
 
 def tell(report: Report, as_json: bool) -> int:
-    """Writes the report and gives the exit code."""
+    """Writes the report, for people with its warning, and gives the exit code."""
+    code = answer(report, as_json)
+    if report.warning and not as_json:
+        complain(report.warning)
+    return code
+
+
+def answer(report: Report, as_json: bool) -> int:
+    """Writes the report, and gives the exit code that this leads to."""
     try:
         write(report, as_json)
     except BrokenPipeError:
@@ -33,13 +41,10 @@ def write(report: Report, as_json: bool) -> None:
             for name, fact in report.facts.items()
         }
         print(json.dumps(facts), flush=True)
-        return
-    if report.exit_code == DONE:
+    elif report.exit_code == DONE:
         print(readable(report.text), flush=True)
     else:
         complain(report.text)
-    if report.warning:
-        complain(report.warning)
 
 
 def complain(text: str) -> None:
