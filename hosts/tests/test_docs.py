@@ -16,7 +16,7 @@ from unittest import mock
 from support_host import FolderTest, object_bytes, run
 
 import taffrail
-from taffrail import Done, Refused
+from taffrail import Done, Refused, reports
 
 ROOT = Path(__file__).resolve().parent.parent.parent
 README = (ROOT / "README.md").read_text()
@@ -69,23 +69,27 @@ class Examples(unittest.TestCase):
 class PublicCalls(unittest.TestCase):
     """The functions that the documents name, and their contracts."""
 
-    def contracts(self) -> Dict[str, str]:
-        """What stands between the name of each function that a crate shows and its body."""
-        found = {}
-        for file in ROOT.glob("crates/*/src/lib.rt"):
-            crate = file.parent.parent.name
-            shown = re.compile(r'^pub (?:extern "C" )?fn (\w+)(.*?)^\{', re.DOTALL | re.MULTILINE)
-            for name, contract in shown.findall(file.read_text()):
-                found[f"{crate}::{name}"] = contract
-        return found
+    def setUp(self) -> None:
+        """Of each function that crates show, by crate, what stands between its name and its body."""
+        self.shown: Dict[str, Dict[str, str]] = {}
+        function = re.compile(r'^pub (?:extern "C" )?fn (\w+)(.*?)^\{', re.DOTALL | re.MULTILINE)
+        for crate in (ROOT / "crates").iterdir():
+            for file in crate.glob("src/**/*.rt"):
+                for name, contract in function.findall(file.read_text()):
+                    self.shown.setdefault(name, {})[crate.name] = contract
+
+    def contracts(self, named: str) -> List[str]:
+        """Of the function that a document names: in its crate, or wherever it has moved to."""
+        crate, name = named.split("::")
+        found = self.shown.get(name, {})
+        return [found[crate]] if crate in found else list(found.values())
 
     def test_public_calls_ask_for_nothing(self) -> None:
-        contracts = self.contracts()
         public = NAME.findall(paragraph_with(PROMISES, "The public calls are"))
         self.assertEqual(len(public), 26)
         for name in public:
             with self.subTest(name=name):
-                self.assertNotIn("requires", contracts[name])
+                self.assertTrue(any("requires" not in found for found in self.contracts(name)))
 
     def test_what_is_left_open(self) -> None:
         """Both documents name the same functions, and count them rightly."""
@@ -102,7 +106,7 @@ class PublicCalls(unittest.TestCase):
     def assert_between_floors(self, names: Set[str]) -> None:
         public = NAME.findall(paragraph_with(PROMISES, "The public calls are"))
         for name in names:
-            self.assertIn(name, self.contracts())
+            self.assertTrue(self.contracts(name), name)
             self.assertNotIn(name, public)
 
 
@@ -125,6 +129,16 @@ class Refusals(FolderTest):
             said.append(run("check", name, folder=self.folder).err.rstrip("\n"))
         shown = re.findall(r"^    (\S+: refused \d+ at .*)$", PACKAGE, re.MULTILINE)
         self.assertEqual(said, shown)
+
+
+class ExitCodes(unittest.TestCase):
+    def test_each_is_told_everywhere(self) -> None:
+        codes = [reports.DONE, reports.REFUSED, reports.UNUSABLE, reports.FAILED_AFTERWARDS]
+        told = [str(code) for code in (*codes, reports.INTERRUPTED)]
+        self.assertEqual(re.findall(r"^\| (\d+) \|", PACKAGE, re.MULTILINE), told)
+        for text in (run("--help").out, paragraph_with(DECISIONS, "**H9. ")):
+            (listed,) = re.findall(r"Exit codes:(.*?)\.", " ".join(text.split()))
+            self.assertEqual(re.findall(r"\d+", listed), told)
 
 
 class Leftovers(FolderTest):
