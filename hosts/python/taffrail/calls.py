@@ -37,7 +37,7 @@ _HIGHEST_SIZE = 2 ** (8 * ctypes.sizeof(ctypes.c_size_t)) - 1  # size_t
 
 _LIST_TOO_SHORT = 9
 
-# A search begins with a list of so many entries. The library finds as many in one pass.
+# A search begins with a list of so many entries, and is made again only where more are found.
 _SHORT_LIST = 256
 
 
