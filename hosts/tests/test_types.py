@@ -22,6 +22,7 @@ from typing import List
 import taffrail
 from taffrail.library import NativeLibrary
 from taffrail.reasons import reason_of_check
+from taffrail.store import Store, Wanted
 
 
 def edited(view: memoryview, shared: mmap, numbers: "array[int]", own: bytearray) -> None:
@@ -48,6 +49,13 @@ def why(own: bytes) -> str:
     if isinstance(answer, taffrail.Refused):
         return reason_of_check(answer, own)
     return ""
+
+
+def stored(map_path: Path, journal_path: str) -> bytes:
+    Store().create([(map_path, taffrail.empty_map(8)), (journal_path, b"")])
+    with Store().edit(Wanted(map_path, 48), Wanted(journal_path, 0)) as pair:
+        pair.save(*pair.contents)
+    return Store().read(Wanted(map_path, 48))
 
 
 def load(path: Path) -> NativeLibrary:

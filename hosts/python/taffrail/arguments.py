@@ -4,10 +4,10 @@ from __future__ import annotations
 
 import argparse
 import math
-import os
 import re
 from typing import Any, Callable, Mapping, NoReturn, Sequence
 
+from .files import misnamed
 from .layout import MOST_RECORDS, SECTION_MARKS
 from .reports import PROGRAM
 from .store import DEFAULT_WAIT
@@ -167,12 +167,10 @@ DESCRIPTIONS: Mapping[str, Callable[[argparse.ArgumentParser], None]] = {
 
 
 def file_name(text: str) -> str:
-    """A reader of the name of a file. The system would take away a slash at its end, and an
-    empty name for the folder that it is in."""
-    if not text:
-        raise argparse.ArgumentTypeError("the name of a file is empty")
-    if os.path.basename(text) in ("", os.curdir, os.pardir):
-        raise argparse.ArgumentTypeError(f"'{text}' is the name of a folder, not of a file")
+    """A reader of the name of a file."""
+    problem = misnamed(text)
+    if problem:
+        raise argparse.ArgumentTypeError(problem)
     return text
 
 
