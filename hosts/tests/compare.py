@@ -5,8 +5,9 @@
 
 First the worked cases of `vectors`, then generated cases, sweeps of damage over every field,
 long runs of edits, and maps at the limits. `--self` puts the model itself behind the C
-interface. It ends with 1 on the first difference, or if an answer came up too seldom. If the
-library crashes, `--trace` shows in which case.
+interface. It ends with 1 on the first difference, or if an answer came up too seldom; fewer
+cases than 20,000 need not bring up every answer. If the library crashes, `--trace` shows in
+which case.
 """
 
 from __future__ import annotations
@@ -41,7 +42,8 @@ PROTOTYPES: dict[str, tuple[Any, ...]] = {
 Functions = Mapping[str, Callable[..., int]]
 
 GUARD = bytes(range(0xA0, 0xE0))
-LEAST_HITS = 20
+CASES = 20_000  # unless another number is asked for
+LEAST_HITS = 20  # of each answer in so many cases
 RUNS, MANY_RUNS = 40, 2
 PROGRAM_RUNS = 500
 MOST_LINES = 20
@@ -435,7 +437,7 @@ def arguments() -> argparse.Namespace:
     parser.add_argument("--self", dest="own", action="store_true", help="the model as library")
     parser.add_argument("--program", help="the search program, for its worked cases")
     parser.add_argument("--seed", type=int, default=SystemRandom().getrandbits(32))
-    parser.add_argument("--cases", type=int, default=20_000)
+    parser.add_argument("--cases", type=int, default=CASES)
     parser.add_argument("--only", type=int, help="one generated case alone")
     parser.add_argument("--trace", action="store_true", help="tell each case before it runs")
     given = parser.parse_args()
@@ -478,9 +480,11 @@ def main() -> int:
         return 1
     print(f"{harness.coverage()}\nseconds {time.monotonic() - start:.1f}")
     seldom = harness.seldom()
-    if seldom:
-        print("too seldom: " + " ".join(seldom))
-    return 1 if seldom else 0
+    if not seldom:
+        return 0
+    few = given.cases < CASES
+    print(f"{'seldom, in so few cases' if few else 'too seldom'}: {' '.join(seldom)}")
+    return 0 if few else 1
 
 
 if __name__ == "__main__":

@@ -12,7 +12,7 @@ import os
 import signal
 import sys
 import traceback
-from contextlib import redirect_stderr, redirect_stdout
+from contextlib import redirect_stderr, redirect_stdout, suppress
 from typing import Any, Callable, NamedTuple, Sequence
 
 from taffrail import cli
@@ -126,7 +126,8 @@ def _child(
     except BaseException:
         said.write(traceback.format_exc())
     finally:
-        os.write(writing, said.getvalue().encode())
+        with suppress(BrokenPipeError):  # whoever started it may have been ended
+            os.write(writing, said.getvalue().encode())
         sys.stdout.flush()
         os._exit(code)
 
@@ -139,7 +140,8 @@ def run_here(*arguments: object) -> Ended:
 def count_calls(arguments: Sequence[object], counted: Sequence[str]) -> int:
     """How many of the counted calls this command makes when nothing happens to it."""
     files = CountingFiles(counted, 0, cut)
-    with redirect_stdout(io.StringIO()):
+    said = io.StringIO()
+    with redirect_stdout(said), redirect_stderr(said):
         code = cli.main([str(argument) for argument in arguments], files)
-    assert code == 0, code
+    assert code == 0, said.getvalue()
     return files.calls

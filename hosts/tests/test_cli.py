@@ -39,9 +39,8 @@ class CliTest(FolderTest):
         self.assertEqual(ran, Ran(DONE, out, ""))
 
     def assert_refused(self, ran: Ran, number: int, place: int = 0) -> None:
-        words = taffrail.WORDS[number]
         self.assertEqual((ran.code, ran.out), (REFUSED, ""), ran.err)
-        self.assertTrue(ran.err.startswith(f"refused {number} at {place}: {words}"), ran.err)
+        self.assertRegex(ran.err, rf"^[^\n]+: refused {number} at {place}: [^\n]+\n$")
 
     def assert_unusable(self, ran: Ran, *words: object) -> None:
         self.assertEqual((ran.code, ran.out), (UNUSABLE, ""), ran.err)
@@ -239,6 +238,7 @@ class Json(CliTest):
         ran = self.remove(1, 0, "--json")
         self.assertEqual((ran.code, ran.err), (REFUSED, ""))
         refused = {"result": "refused", "number": 12, "place": 0, "words": taffrail.WORDS[12]}
+        refused.update(file=str(self.map), reason="slot 0 is missing, the map has no slot")
         self.assertEqual(ran.json(), refused)
         ran = run("check", self.folder / "missing", "--json")
         self.assertEqual((ran.code, ran.err), (UNUSABLE, ""))
@@ -272,7 +272,7 @@ class Json(CliTest):
 
 
 class Refusals(CliTest):
-    """Refusals name number, place and words, end with 1, and write nothing."""
+    """Refusals name file, number, place and reason, end with 1, and write nothing."""
 
     def setUp(self) -> None:
         super().setUp()
@@ -664,8 +664,8 @@ class Output(CliTest):
         child.stderr.close()
         self.assertEqual(child.wait(), DONE)
 
-    def assert_code_on_a_full_disk(self, code: int, *words: object) -> None:
-        """The exit code where the answer cannot be written."""
+    def assert_code_on_a_full_disk(self, code: int, *words: object) -> bytes:
+        """The exit code where the answer cannot be written. Gives what is told of it."""
         with open("/dev/full", "wb") as full:
             ended = subprocess.run(
                 command_line(*words),
@@ -677,6 +677,7 @@ class Output(CliTest):
         self.assertEqual(ended.returncode, code)
         self.assertIn(b"No space left", ended.stderr)
         self.assertNotIn(b"Traceback", ended.stderr)
+        return ended.stderr
 
     @unittest.skipUnless(os.path.exists("/dev/full"), "there is no /dev/full")
     def test_a_full_disk(self) -> None:
@@ -695,6 +696,14 @@ class Output(CliTest):
         self.assertEqual(other.read_bytes(), layout.empty_map(8))
         refused = ("remove", self.map, self.journal, "--edit", 3, "--slot", 0, "--json")
         self.assert_code_on_a_full_disk(UNUSABLE, *refused)
+
+    @unittest.skipUnless(os.path.exists("/dev/full"), "there is no /dev/full")
+    def test_a_full_disk_and_a_warning(self) -> None:
+        """A journal that is nearly full is told nevertheless."""
+        self.make_pair(records=1)
+        words = ("add", self.map, self.journal, "--edit", 1, self.object)
+        told = self.assert_code_on_a_full_disk(FAILED_AFTERWARDS, *words)
+        self.assertIn(b"its one record is used", told)
 
     @unittest.skipUnless(os.path.exists("/dev/full"), "there is no /dev/full")
     def test_standard_error_that_cannot_be_written(self) -> None:

@@ -7,6 +7,7 @@ import struct
 import tempfile
 import unittest
 from array import array
+from mmap import mmap
 from pathlib import Path
 from typing import Any, Callable, Tuple
 from unittest import mock
@@ -240,10 +241,43 @@ class Results(unittest.TestCase):
         self.assertNotEqual(Found((), 0), Listed(0, 0))
         self.assertEqual(Done(0, 48), Done(0, 48))
 
+    def test_a_refusal_alone_is_false(self) -> None:
+        """So that ``if taffrail.check(m):`` is right, and a search that finds nothing is true."""
+        self.assertFalse(taffrail.check(b""))
+        self.assertFalse(Refused(9, 0, taffrail.WORDS[9], needed=1))
+        for answer in (Accepted(), Found((), 0), Listed(0, 0), Done(0, 0), DoneBefore(0, 0)):
+            self.assertTrue(answer)
+        self.assertTrue(taffrail.check(taffrail.empty_map(8)))
+
     def test_they_cannot_be_changed(self) -> None:
         done: Any = Done(0, 48)
         with self.assertRaises(AttributeError):
             done.slot = 1
+
+
+class NewOnes(unittest.TestCase):
+    """Maps and journals that no call would take are not made."""
+
+    def test_versions(self) -> None:
+        for version in (6, 7, 8):
+            self.assertEqual(taffrail.check(taffrail.empty_map(version)), Accepted())
+        for version in (5, 9, -1, 2**70):
+            with self.assertRaisesRegex(ValueError, f"version 6, 7 or 8, not {version}"):
+                taffrail.empty_map(version)
+
+    def test_records(self) -> None:
+        for records in (0, 1, 4_096):
+            self.assertEqual(taffrail.empty_journal(records), bytes(16 * records))
+        for records in (5_000, 4_097, -1, 2**70):
+            with self.assertRaisesRegex(ValueError, f"0 to 4,096 records, not {records}"):
+                taffrail.empty_journal(records)
+
+    def test_whole_numbers_only(self) -> None:
+        for wrong in (7.0, "7", None):
+            given: Any = wrong
+            for make in (taffrail.empty_map, taffrail.empty_journal):
+                with self.assertRaises(TypeError):
+                    make(given)
 
 
 class Ranges(unittest.TestCase):
@@ -308,6 +342,21 @@ class Lending(unittest.TestCase):
         taffrail.search(map_buffer, 0, 0, 1, 1, used=used)
         map_buffer.append(0)  # fails while something still holds the buffer
         journal.append(0)
+
+    def test_mapped_files_and_arrays(self) -> None:
+        """They are edited in place, and given back when the call ends."""
+        map_buffer, journal, used = with_bridge()
+        mapped, numbers = mmap(-1, len(map_buffer)), array("B", journal)
+        mapped[:] = bytes(map_buffer)
+        self.assertEqual(taffrail.check(mapped, used=used), Accepted())
+        offered = array("I", object_bytes())
+        self.assertEqual(taffrail.room_for_add(offered), 40 + BLOCK)
+        answer = taffrail.add(mapped, numbers, 2, offered, used=used)
+        self.assertEqual(answer, Done(1, used + 40))
+        self.assertEqual(taffrail.search(mapped, 0, 0, 9, 9, used=used + 40), Found((0, 1), 1))
+        self.assertEqual(numbers.tobytes()[16:32], struct.pack("<IB3xI4x", 2, 1, 1))
+        mapped.close()
+        numbers.append(0)
 
     def test_read_only_buffers(self) -> None:
         map_buffer, journal, used = with_bridge()

@@ -392,6 +392,22 @@ class FailingCalls(CutTest):
         ended = scene.run(last, ["remove"], no_space)
         self.assertEqual(ended, (False, 3, f"{answer}\ntaffrail: {trouble}\n"))
 
+    def test_what_is_told_of_a_journal_that_is_nearly_full(self) -> None:
+        """It is told too, to people and to scripts."""
+        scene = self.reinstatement()
+        last = scene.count(["remove"])
+        ended = scene.run(last, ["remove"], no_space)
+        self.assertEqual(ended.code, 3)
+        answer, trouble, warning = ended.wrote.splitlines()
+        self.assertTrue(answer.startswith("done: edit 3,"), answer)
+        self.assertIn("the next command finishes it", trouble)
+        self.assertIn("city.journal: 3 of 4 records are used", warning)
+        scene.command = (*scene.command, "--json")
+        told = json.loads(scene.run(last, ["remove"], no_space).wrote)
+        self.assertEqual((told["result"], told["records_left"]), ("done unfinished", 1))
+        self.assertIn(told["message"], trouble)
+        self.assertIn(told["warning"], warning)
+
     def test_what_is_told_of_new_files(self) -> None:
         command = ["new", self.map, "--journal", self.journal, "--json"]
         ended = run_in_child(command, CountingFiles(["write"], 3, no_space))
@@ -817,7 +833,7 @@ class ManyAtOnce(ChildrenTest):
         self.assert_complete(100)
 
     def test_two_real_commands(self) -> None:
-        self.make_pair(records=20)
+        self.make_pair(records=40)
         for edit in range(1, 20, 2):
             both = [
                 subprocess.Popen(
@@ -1082,6 +1098,42 @@ class TooLong(CutTest):
         self.assertEqual(Store().read(wanted), scene.new[0])
         with self.assertRaisesRegex(FileProblem, "longer than"):
             Store().read(replace(wanted, most=wanted.most - 1))
+
+
+class Names(FolderTest):
+    """How a program may name the files."""
+
+    def test_a_path(self) -> None:
+        """A Path serves as a string does, and is told as one."""
+        Store().create([(self.map, b"map"), (self.journal, b"journal")])
+        wanted = Wanted(self.map, MOST)
+        with Store().edit(wanted, Wanted(self.journal, MOST)) as group:
+            group.save(b"Map and more", b"journal")
+        self.assertEqual(Store().read(wanted), b"Map and more")
+        for call in (
+            lambda: Store().create([(self.map, b"")]),
+            lambda: Store().read(replace(wanted, most=1)),
+            lambda: Store().read(Wanted(Path(f"{self.map}{PENDING}"), MOST)),
+            lambda: Store().read(Wanted(self.folder / "missing", MOST)),
+        ):
+            with self.assertRaises(FileProblem) as caught:
+                call()
+            self.assertTrue(str(caught.exception).startswith(f"{self.folder}/"))
+
+    def test_the_name_of_no_file(self) -> None:
+        """An empty name is not the folder, and with a slash behind it no file is meant."""
+        self.map.write_bytes(b"map")
+        for name, told in (
+            ("", "the name of a file is empty"),
+            (f"{self.map}/", "is the name of a folder, not of a file"),
+            (f"{self.map}/.", "is the name of a folder, not of a file"),
+        ):
+            with self.subTest(name=name):
+                with self.assertRaisesRegex(FileProblem, told):
+                    Store().read(Wanted(name, MOST))
+                with self.assertRaisesRegex(FileProblem, told):
+                    Store().create([(self.journal, b"journal"), (name, b"map")])
+        self.assertEqual(self.names(), ["bridge.object", "city.ocd"])
 
 
 class OwnersRefused(Files):

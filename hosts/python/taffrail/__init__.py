@@ -10,7 +10,8 @@ A first use::
 
 Maps and journals are buffers that the caller owns; edits change them in place. Each call
 answers with a small value: ``Accepted``, ``Found``, ``Listed``, ``Done``, ``DoneBefore`` or
-``Refused``. A refusal is an answer, not an exception, and changes nothing.
+``Refused``. A refusal is an answer, not an exception, and changes nothing. It is false, and the
+others are true; the module ``taffrail.reasons`` says in words what is wrong.
 
 The calls work on memory. For files, with locks and safe saving, there is the command line
 ``python3 -m taffrail`` and, below it, the module ``taffrail.store``.

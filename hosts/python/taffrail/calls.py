@@ -37,7 +37,7 @@ _HIGHEST_SIZE = 2 ** (8 * ctypes.sizeof(ctypes.c_size_t)) - 1  # size_t
 
 _LIST_TOO_SHORT = 9
 
-# A search begins with a list of so many entries. The library finds as many in one pass.
+# A search begins with a list of so many entries, and is made again only where more are found.
 _SHORT_LIST = 256
 
 
@@ -100,8 +100,8 @@ def search_into(
     window = _window(left, bottom, right, top)
     answer = library.in_use().search(map_buffer, _used(map_buffer, used), window, slots)
     if answer.number != 0:
-        return refused(answer.number, answer.place, answer.count)
-    return Listed(answer.count, answer.blocks)
+        return refused(answer.number, answer.place, answer.found)
+    return Listed(answer.found, answer.blocks)
 
 
 def add(

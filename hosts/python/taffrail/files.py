@@ -8,7 +8,9 @@ import fcntl
 import os
 import resource
 import struct
-from typing import List
+from typing import List, Union
+
+FilePath = Union[str, os.PathLike[str]]
 
 
 class FileProblem(Exception):
@@ -30,10 +32,21 @@ WORDS = {
 }
 
 
-def file_problem(path: str, problem: OSError) -> FileProblem:
+def file_problem(path: FilePath, problem: OSError) -> FileProblem:
     """The problem that the system has with this file, in words."""
     said = WORDS.get(problem.errno or 0, problem.strerror or str(problem))
     return FileProblem(f"{path}: {said}")
+
+
+def misnamed(path: FilePath) -> str:
+    """What is wrong with the name of a file, if anything. The system would take away a slash
+    at its end, and an empty name for the folder that it is in."""
+    name = os.fspath(path)
+    if not name:
+        return "the name of a file is empty"
+    if os.path.basename(name) in ("", os.curdir, os.pardir):
+        return f"'{name}' is the name of a folder, not of a file"
+    return ""
 
 
 LONGEST_PATH = 4_095  # bytes; a path over that is refused, whatever there is at its end
@@ -57,7 +70,7 @@ class Files:
     A test replaces this object to end the process at any of them.
     """
 
-    def real_path(self, path: str) -> str:
+    def real_path(self, path: FilePath) -> str:
         return os.path.realpath(path)
 
     def open(self, path: str, flags: int) -> int:

@@ -17,20 +17,22 @@ from __future__ import annotations
 import ctypes
 import os
 from array import array
+from mmap import mmap
 from pathlib import Path
 from typing import TYPE_CHECKING, Any, List, NamedTuple, Optional, Protocol, Sequence, Union
 
 if TYPE_CHECKING:
     SlotArray = array[int]
+    AnyArray = array[Any]
 else:
-    SlotArray = array
+    SlotArray = AnyArray = array
 
 VARIABLE = "TAFFRAIL_LIBRARY"
 FILE_NAME = "libtaffrail.so"
 HIGHEST_NUMBER = 15  # of the numbers that come back
 
-Readable = Union[bytes, bytearray, memoryview]
-Writable = Union[bytearray, memoryview]
+Writable = Union[bytearray, memoryview, mmap, AnyArray]
+Readable = Union[bytes, Writable]
 
 
 class LibraryError(Exception):
@@ -49,7 +51,7 @@ class SearchAnswer(NamedTuple):
 
     number: int
     place: int
-    count: int
+    found: int
     blocks: int
 
 
@@ -106,8 +108,8 @@ _EDIT_OUT = [_Words] * 4  # place, before, slot, length
 class NativeLibrary:
     """The five calls of the shared library in this file."""
 
-    def __init__(self, path: str) -> None:
-        calls = _load(path)
+    def __init__(self, path: Union[str, Path]) -> None:
+        calls = _load(str(path))
         self._check = _declare(calls, "taffrail_check", _MAP + [_Words])
         self._search = _declare(
             calls, "taffrail_search", _MAP + [_Signed] * 4 + [_Words, _Size] + [_Words] * 3

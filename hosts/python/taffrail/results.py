@@ -1,13 +1,14 @@
 """The answers of the five calls, as small values that cannot be changed.
 
 Every call answers with one of these. Two answers are equal when they are of the same kind
-and hold the same numbers, so ``Done(0, 48)`` is not ``DoneBefore(0, 48)``.
+and hold the same numbers, so ``Done(0, 48)`` is not ``DoneBefore(0, 48)``. A refusal is false,
+and every other answer is true, also one that found nothing.
 """
 
 from __future__ import annotations
 
 from dataclasses import dataclass
-from typing import Dict, Tuple, Union
+from typing import Dict, Literal, Tuple, Union
 
 # The numbers that come back, each with the words that document 01 gives for it.
 WORDS: Dict[int, str] = {
@@ -79,6 +80,10 @@ class Refused:
     place: int
     words: str
     needed: int = 0
+
+    def __bool__(self) -> Literal[False]:
+        """A refusal is false, so that ``if check(m):`` asks whether the map is accepted."""
+        return False
 
     def __str__(self) -> str:
         return f"refused {self.number} at {self.place}: {self.words}"

@@ -77,11 +77,13 @@ from typing import Callable, Iterable, Iterator, List, Optional, Sequence, Tuple
 
 from .files import (
     DoneUnfinished,
+    FilePath,
     FileProblem,
     Files,
     Locked,
     discard,
     file_problem,
+    misnamed,
     name_is_too_long,
     read_up_to,
     reserve,
@@ -118,7 +120,7 @@ class Wanted:
     """A file to open, and the most bytes that it may have. A longer one is a FileProblem,
     unless its first bytes will do."""
 
-    path: str
+    path: FilePath
     most: int
     first_bytes_will_do: bool = False
 
@@ -193,7 +195,7 @@ class Store:
                     return
             self._finish_first(pending, deadline)
 
-    def create(self, files: Sequence[Tuple[str, bytes]]) -> None:
+    def create(self, files: Sequence[Tuple[FilePath, bytes]]) -> None:
         """Make new files with these contents, all or none. A file that is there and is not
         empty stays as it is, and that is a FileProblem. A cut may leave empty files; they
         are no hindrance to the next try."""
@@ -210,7 +212,7 @@ class Store:
             self._unmake(made, paths)
             raise
 
-    def _fill(self, files: Sequence[Tuple[str, bytes]]) -> None:
+    def _fill(self, files: Sequence[Tuple[FilePath, bytes]]) -> None:
         wanted = [Wanted(path, 1, first_bytes_will_do=True) for path, _ in files]
         with self.edit(*wanted) as group:
             for (path, _), found in zip(files, group.contents):
@@ -477,8 +479,11 @@ class Store:
 
     # Reading and making files.
 
-    def _path_of(self, path: str) -> str:
+    def _path_of(self, path: FilePath) -> str:
         """The real path of a map or a journal."""
+        problem = misnamed(path)
+        if problem:
+            raise FileProblem(problem)
         real = self._files.real_path(path)
         if real.endswith(OWN_ENDINGS):
             raise FileProblem(
@@ -518,7 +523,7 @@ class Store:
         if self._files.about(file.handle).st_size != len(old):
             raise FileProblem(f"{file.path}: is too long to be edited")
 
-    def _refuse_taken(self, path: str) -> None:
+    def _refuse_taken(self, path: FilePath) -> None:
         real = self._files.real_path(path)
         try:
             self._files.about_path(os.path.dirname(real))
@@ -535,7 +540,7 @@ class Store:
         except FileNotFoundError:
             return 0
 
-    def _make_empty(self, path: str, made: List[str]) -> None:
+    def _make_empty(self, path: FilePath, made: List[str]) -> None:
         """Makes an empty file where there is none, and notes it; one that is there stays."""
         real = self._files.real_path(path)
         try:
