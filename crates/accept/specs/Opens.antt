@@ -5,16 +5,15 @@
 --     afterOpened m used o    the check's answer for a map that was opened: the refusal, or 7, or accepted
 --     Open m used n t         1 to 5 hold, with n index blocks, which are in the table, filled
 --     Opens m used t o        the map is open where o is no refusal
-use Prim.Native.Nat.{ℕ, _+_, _*_, _≤_}
+use Prim.Native.Nat.{ℕ, _≤_}
 use mathlib.Core.Path.{_≡_}
 use mathlib.Core.List.{List}
-use lib.ListN.{length}
-use Rattle.records.specs.Sizes.{headerSize, mapLimit, indexBlockSize, indexPage}
+use Rattle.records.specs.Sizes.{headerSize, indexBlockSize, indexPage}
 use Rattle.records.specs.Headers.{indexHead}
 use Rattle.chain.specs.declared.Walk.{Walk}
 use Rattle.chain.specs.declared.Walk.the-variants.{Blocks, Fault}
 use Rattle.chain.specs.Chains.{walked}
-use Rattle.chain.specs.Tables.{Filled, EndsTable}
+use Rattle.chain.specs.Tables.{EndsTable}
 use Rattle.accept.specs.declared.Verdict.{Verdict}
 use Rattle.accept.specs.declared.Verdict.the-variants.{Accepted, Refused}
 use Rattle.accept.specs.declared.Judged.{Judged}
@@ -22,6 +21,7 @@ use Rattle.accept.specs.declared.Judged.the-variants.{Good, Bad}
 use Rattle.accept.specs.declared.Opened.{Opened}
 use Rattle.accept.specs.declared.Opened.the-variants as opened
 use Rattle.judge.specs.Rules.{indexRule}
+use Rattle.judge.specs.Indexed.{Indexed}
 use Rattle.accept.specs.Verdicts.{unless, headerJudged, symbolsJudged, slotsJudged}
 
 abbrev pub orOpened : Judged → Opened → Opened
@@ -41,11 +41,8 @@ afterOpened m used (opened.Refused k p) = Refused k p
 
 pub record Open (m : List ℕ) (used n : ℕ) (t : List ℕ) : Type 0 where
   pub low : headerSize ≤ used
-  pub limit : used ≤ mapLimit
-  pub room : used ≤ length m
-  pub wide : used + indexPage ≤ length t * indexPage
+  pub indexed : Indexed m used t
   pub index : walked (indexRule m) m used ≡ Blocks n
-  pub filled : Filled indexBlockSize indexPage used t
   pub table : EndsTable indexBlockSize indexHead indexPage m n t
 
 abbrev pub Opens : List ℕ → ℕ → List ℕ → Opened → Type 0

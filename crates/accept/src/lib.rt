@@ -28,6 +28,7 @@ ghost use Rattle.chain.specs.declared.Walk.the-variants.{Blocks};
 ghost use Rattle.accept.specs.declared.Verdict.the-variants.{Accepted};
 ghost use Rattle.accept.specs.declared.Examined.the-variants as examined;
 ghost use Rattle.accept.specs.Slots.{firstFree, freeIn, withFree};
+ghost use Rattle.judge.specs.Indexed.{Indexed};
 ghost use Rattle.judge.specs.Rules.{indexRule, symbolRule};
 ghost use Rattle.judge.specs.Judging.{badSlot, badEntry};
 ghost use Rattle.accept.specs.Opens.{openedAfter, openedOf, afterOpened, Open, Opens};
@@ -155,7 +156,7 @@ fn first_free(is: bool, free: usize, s: usize) -> usize
 
 // 7, of one index block: the slots in their order, up to the first at fault. The first free slot is told where none is at fault.
 fn judge_block_slots(m: &[u8], used: usize, version: u16, index: &[u32], block: usize) -> Seen
-    requires { ⌜ (block + indexBlockSize ≤ used) × (used ≤ mapLimit) × (used ≤ length (now m)) × (used + indexPage ≤ length (now index) * indexPage) × Filled indexBlockSize indexPage used (now index) ⌝ }
+    requires { ⌜ (block + indexBlockSize ≤ used) × Indexed (now m) used (now index) ⌝ }
     ensures { λ r. ⌜ (r .bad ≡ first (λ j. badSlot (endsMeet indexBlockSize (now (index .entry))) (now (m .entry)) used version (cellIn block slotSize j)) 256) × (r .bad ≡ 256 → r .free ≡ first (freeIn (now (m .entry)) block) 256) ⌝ }
 {
     let mut at = block + 4;
@@ -200,7 +201,7 @@ fn judge_slots(m: &[u8], used: usize, index: &[u32], n: usize) -> Examined
 
 // 6, of one symbol block: the first entry at fault.
 fn judge_block_entries(m: &[u8], used: usize, index: &[u32], block: usize) -> Judged
-    requires { ⌜ (block + symbolBlockSize ≤ used) × (used ≤ mapLimit) × (used ≤ length (now m)) × (used + indexPage ≤ length (now index) * indexPage) × Filled indexBlockSize indexPage used (now index) ⌝ }
+    requires { ⌜ (block + symbolBlockSize ≤ used) × Indexed (now m) used (now index) ⌝ }
     ensures { λ r. ⌜ r ≡ cellsJudged 6 (λ e. badEntry (endsMeet indexBlockSize (now (index .entry))) (now (m .entry)) used (cellIn block entrySize e)) (cellIn block entrySize) 256 ⌝ }
 {
     let mut at = block + 4;
@@ -221,7 +222,7 @@ fn judge_block_entries(m: &[u8], used: usize, index: &[u32], block: usize) -> Ju
 
 // 6, of the first k symbol blocks: the first entry at fault.
 fn judge_entries(m: &[u8], used: usize, index: &[u32], n: usize, k: usize) -> Judged
-    requires { ⌜ (headerSize ≤ used) × (used ≤ mapLimit) × (used ≤ length (now m)) × (used + indexPage ≤ length (now index) * indexPage) × Filled indexBlockSize indexPage used (now index) × EndsTable indexBlockSize indexHead indexPage (now m) n (now index) × (k ≡ taken (symbolRule (now m) n) (now m) used) ⌝ }
+    requires { ⌜ (headerSize ≤ used) × Indexed (now m) used (now index) × EndsTable indexBlockSize indexHead indexPage (now m) n (now index) × (k ≡ taken (symbolRule (now m) n) (now m) used) ⌝ }
     ensures { λ r. ⌜ r ≡ entriesJudged (now (m .entry)) used n k ⌝ }
 {
     let mut at = Header::SYMBOLS;
@@ -242,7 +243,7 @@ fn judge_entries(m: &[u8], used: usize, index: &[u32], n: usize, k: usize) -> Ju
 
 // 6: the symbol blocks and their entries. A table for the blocks is lent, empty before.
 fn judge_symbol_blocks(m: &[u8], used: usize, index: &[u32], n: usize, t: &mut [u32]) -> Judged
-    requires { ⌜ (headerSize ≤ used) × (used ≤ mapLimit) × (used ≤ length (now m)) × (used + indexPage ≤ length (now index) * indexPage) × Filled indexBlockSize indexPage used (now index) × EndsTable indexBlockSize indexHead indexPage (now m) n (now index) × (used + symbolPage ≤ length (now t) * symbolPage) × Empty (now t) ⌝ }
+    requires { ⌜ (headerSize ≤ used) × Indexed (now m) used (now index) × EndsTable indexBlockSize indexHead indexPage (now m) n (now index) × (used + symbolPage ≤ length (now t) * symbolPage) × Empty (now t) ⌝ }
     ensures { λ r. ⌜ r ≡ symbolsJudged (now (m .entry)) used n ⌝ }
 {
     let w = walk_chain(m, used, symbol_kind(), index, t);
@@ -263,7 +264,7 @@ fn judge_symbol_blocks(m: &[u8], used: usize, index: &[u32], n: usize, t: &mut [
 
 // 6, of a small map. Each size of the table stands in a function of its own: so the compiler gives them the same room.
 fn small_symbols(m: &[u8], used: usize, index: &[u32], n: usize) -> Judged
-    requires { ⌜ (headerSize ≤ used) × (used ≤ smallMap) × (used ≤ length (now m)) × (used + indexPage ≤ length (now index) * indexPage) × Filled indexBlockSize indexPage used (now index) × EndsTable indexBlockSize indexHead indexPage (now m) n (now index) ⌝ }
+    requires { ⌜ (headerSize ≤ used) × (used ≤ smallMap) × Indexed (now m) used (now index) × EndsTable indexBlockSize indexHead indexPage (now m) n (now index) ⌝ }
     ensures { λ r. ⌜ r ≡ symbolsJudged (now (m .entry)) used n ⌝ }
 {
     let mut t = [0u32; SymbolBlock::SMALL_TABLE];
@@ -272,7 +273,7 @@ fn small_symbols(m: &[u8], used: usize, index: &[u32], n: usize) -> Judged
 
 // 6, of a map of middle size.
 fn middle_symbols(m: &[u8], used: usize, index: &[u32], n: usize) -> Judged
-    requires { ⌜ (headerSize ≤ used) × (used ≤ middleMap) × (used ≤ length (now m)) × (used + indexPage ≤ length (now index) * indexPage) × Filled indexBlockSize indexPage used (now index) × EndsTable indexBlockSize indexHead indexPage (now m) n (now index) ⌝ }
+    requires { ⌜ (headerSize ≤ used) × (used ≤ middleMap) × Indexed (now m) used (now index) × EndsTable indexBlockSize indexHead indexPage (now m) n (now index) ⌝ }
     ensures { λ r. ⌜ r ≡ symbolsJudged (now (m .entry)) used n ⌝ }
 {
     let mut t = [0u32; SymbolBlock::MIDDLE_TABLE];
@@ -281,7 +282,7 @@ fn middle_symbols(m: &[u8], used: usize, index: &[u32], n: usize) -> Judged
 
 // 6, of any map.
 fn large_symbols(m: &[u8], used: usize, index: &[u32], n: usize) -> Judged
-    requires { ⌜ (headerSize ≤ used) × (used ≤ mapLimit) × (used ≤ length (now m)) × (used + indexPage ≤ length (now index) * indexPage) × Filled indexBlockSize indexPage used (now index) × EndsTable indexBlockSize indexHead indexPage (now m) n (now index) ⌝ }
+    requires { ⌜ (headerSize ≤ used) × Indexed (now m) used (now index) × EndsTable indexBlockSize indexHead indexPage (now m) n (now index) ⌝ }
     ensures { λ r. ⌜ r ≡ symbolsJudged (now (m .entry)) used n ⌝ }
 {
     let mut t = [0u32; SymbolBlock::TABLE];
@@ -290,7 +291,7 @@ fn large_symbols(m: &[u8], used: usize, index: &[u32], n: usize) -> Judged
 
 // 6, with a table as large as the map needs: none where there are no symbol blocks.
 fn judge_symbols(m: &[u8], used: usize, index: &[u32], n: usize) -> Judged
-    requires { ⌜ (headerSize ≤ used) × (used ≤ mapLimit) × (used ≤ length (now m)) × (used + indexPage ≤ length (now index) * indexPage) × Filled indexBlockSize indexPage used (now index) × EndsTable indexBlockSize indexHead indexPage (now m) n (now index) ⌝ }
+    requires { ⌜ (headerSize ≤ used) × Indexed (now m) used (now index) × EndsTable indexBlockSize indexHead indexPage (now m) n (now index) ⌝ }
     ensures { λ r. ⌜ r ≡ symbolsJudged (now (m .entry)) used n ⌝ }
 {
     if u32_at(m, Header::SYMBOLS) == 0 {

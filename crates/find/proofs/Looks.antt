@@ -247,7 +247,7 @@ marked-found m w ws n h =
 
 -- a map that is opened has few blocks
 pub open-few : {m : List ℕ} {used n : ℕ} {t : List ℕ} → Open m used n t → n ≤ mostBlocks
-open-few {m} {used} o = most-blocks (walked-pass (indexRule m) m used (o .index)) (o .limit)
+open-few {m} {used} o = most-blocks (walked-pass (indexRule m) m used (o .index)) (o .indexed .limit)
 
 -- and 7 is the check's answer for it
 pub open-judged : (m : List ℕ) (used n : ℕ) → openedOf m used ≡ opened.Blocks n → {j : Judged} → slotsJudged m used n ≡ j → verdict m used ≡ unless j (Accepted n)

@@ -18,13 +18,14 @@ ghost use mathlib.Core.Bool.{true, false};
 ghost use Prim.Native.Nat.{ℕ, _+_, _*_, _≤_, _<_};
 ghost use lib.ListN.{length};
 ghost use Rattle.numbers.specs.Below.{first, sel};
-ghost use Rattle.records.specs.Sizes.{indexBlockSize, indexPage, mostBlocks, slotSize, mapLimit};
+ghost use Rattle.records.specs.Sizes.{indexBlockSize, mostBlocks, slotSize, mapLimit};
 ghost use Rattle.windows.specs.declared.Window.{Window};
 ghost use Rattle.windows.specs.Windows.{windowGood};
 ghost use Rattle.bits.specs.Bits.{bitsFrom, wordBits};
 ghost use Rattle.chain.specs.Cells.{cellIn};
-ghost use Rattle.chain.specs.Tables.{Filled, endsMeet};
+ghost use Rattle.chain.specs.Tables.{endsMeet};
 ghost use Rattle.accept.specs.declared.Judged.the-variants.{Good, Bad};
+ghost use Rattle.judge.specs.Indexed.{Indexed};
 ghost use Rattle.judge.specs.Judging.{badSlot};
 ghost use Rattle.accept.specs.Opens.{Open, Opens, openedOf};
 ghost use Rattle.accept.specs.declared.Opened.the-variants.{Blocks};
@@ -126,7 +127,7 @@ const HIGH: u64 = 9223372036854775808;
 
 // A word's slots in a row, from a place on: judged, and looked at, up to the first at fault.
 fn look_in_word(m: &[u8], used: usize, version: u16, index: &[u32], from: usize, w: Window) -> Word
-    requires { ⌜ (from + wordBits * slotSize ≤ used) × (used ≤ mapLimit) × (used ≤ length (now m)) × (used + indexPage ≤ length (now index) * indexPage) × Filled indexBlockSize indexPage used (now index) ⌝ }
+    requires { ⌜ (from + wordBits * slotSize ≤ used) × Indexed (now m) used (now index) ⌝ }
     ensures { λ r. ⌜ (r .bad ≡ first (λ j. badSlot (endsMeet indexBlockSize (now (index .entry))) (now (m .entry)) used version (slotFrom from j)) wordBits) × (r .bad ≡ wordBits → r .bits ≡ bitsFrom (liveFrom (now (m .entry)) w from) 0 wordBits) ⌝ }
 {
     let mut at = from;
@@ -169,7 +170,7 @@ fn look_in_block(
     words: &mut [u64],
     before: usize,
 ) -> Looked
-    requires { ⌜ (block + indexBlockSize ≤ used) × (used ≤ mapLimit) × (used ≤ length (now m)) × (used + indexPage ≤ length (now index) * indexPage) × Filled indexBlockSize indexPage used (now index) × SlotsOf (now m) block (256 * k) × (k < mostBlocks) × (blockWords * k + blockWords ≤ length (now words)) × (before ≡ length (sel (liveIn (now m) w) (256 * k))) × Marked (now m) w (now words) (blockWords * k) ⌝ }
+    requires { ⌜ (block + indexBlockSize ≤ used) × Indexed (now m) used (now index) × SlotsOf (now m) block (256 * k) × (k < mostBlocks) × (blockWords * k + blockWords ≤ length (now words)) × (before ≡ length (sel (liveIn (now m) w) (256 * k))) × Marked (now m) w (now words) (blockWords * k) ⌝ }
     ensures { λ r. ⌜ (r .bad ≡ first (λ j. badSlot (endsMeet indexBlockSize (now (index .entry))) (now (m .entry)) used version (cellIn block slotSize j)) 256) × (r .bad ≡ 256 → (r .count ≡ length (sel (liveIn (now (m .entry)) w) (256 * k + 256))) × Marked (now (m .entry)) w (now (words .exit)) (blockWords * k + blockWords)) ⌝ }
 {
     let mut count = before;

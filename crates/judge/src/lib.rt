@@ -16,12 +16,12 @@ use slots::type_good;
 ghost use mathlib.Core.Path.{_≡_};
 ghost use mathlib.Core.Bool.{true, _&&_};
 ghost use Prim.Native.Nat.{ℕ, _+_, _*_, _≤_, _<_};
-ghost use lib.ListN.{length};
 ghost use Rattle.numbers.specs.Bytes.{u32At};
 ghost use Rattle.numbers.specs.Below.{first};
-ghost use Rattle.records.specs.Sizes.{indexBlockSize, indexPage, mapLimit};
+ghost use Rattle.records.specs.Sizes.{indexBlockSize, mapLimit};
 ghost use Rattle.slots.specs.Slots.{slotOf, lenGood, bytesIn, bytesInRange};
-ghost use Rattle.chain.specs.Tables.{Filled, endsMeet};
+ghost use Rattle.chain.specs.Tables.{endsMeet};
+ghost use Rattle.judge.specs.Indexed.{Indexed};
 ghost use Rattle.judge.specs.Rules.{indexKind, symbolKind};
 ghost use Rattle.judge.specs.Judging.{partGood, headerFits, objectGood, slotGood, badSlot, symbolGood, badEntry};
 
@@ -54,7 +54,7 @@ fn header_fits(h: ObjectHeader, t: Slot, bytes: usize) -> bool
 
 // Whether a slot's Len is allowed and its object is good. The part of the map that starts at its position is handed on.
 fn object_good(m: &[u8], used: usize, version: u16, index: &[u32], t: Slot) -> bool
-    requires { ⌜ (used ≤ mapLimit) × (used ≤ length (now m)) × (used + indexPage ≤ length (now index) * indexPage) × Filled indexBlockSize indexPage used (now index) × (t .len ≡ 0 → ⊥) ⌝ }
+    requires { ⌜ Indexed (now m) used (now index) × (t .len ≡ 0 → ⊥) ⌝ }
     ensures { λ r. ⌜ r ≡ (lenGood version (t .len) && objectGood (endsMeet indexBlockSize (now (index .entry))) (now (m .entry)) used version t) ⌝ }
 {
     let at = t.position as usize;
@@ -76,7 +76,7 @@ fn object_good(m: &[u8], used: usize, version: u16, index: &[u32], t: Slot) -> b
 
 // Whether a slot that is not free would be good as a live one. The two comparisons stand apart for the sake of time (DECISIONS, C9).
 pub fn slot_good(m: &[u8], used: usize, version: u16, index: &[u32], t: Slot) -> bool
-    requires { ⌜ (used ≤ mapLimit) × (used ≤ length (now m)) × (used + indexPage ≤ length (now index) * indexPage) × Filled indexBlockSize indexPage used (now index) × (t .len ≡ 0 → ⊥) ⌝ }
+    requires { ⌜ Indexed (now m) used (now index) × (t .len ≡ 0 → ⊥) ⌝ }
     ensures { λ r. ⌜ r ≡ slotGood (endsMeet indexBlockSize (now (index .entry))) (now (m .entry)) used version t ⌝ }
 {
     if !at_most(t.left, t.right) {
@@ -90,7 +90,7 @@ pub fn slot_good(m: &[u8], used: usize, version: u16, index: &[u32], t: Slot) ->
 
 // Whether a slot that is not free is live and not good.
 pub fn bad_slot(m: &[u8], used: usize, version: u16, index: &[u32], t: Slot) -> bool
-    requires { ⌜ (used ≤ mapLimit) × (used ≤ length (now m)) × (used + indexPage ≤ length (now index) * indexPage) × Filled indexBlockSize indexPage used (now index) × (t .len ≡ 0 → ⊥) ⌝ }
+    requires { ⌜ Indexed (now m) used (now index) × (t .len ≡ 0 → ⊥) ⌝ }
     ensures { λ r. ⌜ ((at : ℕ) → t ≡ slotOf (now (m .entry)) at → r ≡ badSlot (endsMeet indexBlockSize (now (index .entry))) (now (m .entry)) used version at) ⌝ }
 {
     if t.sym == 0 {
@@ -101,7 +101,7 @@ pub fn bad_slot(m: &[u8], used: usize, version: u16, index: &[u32], t: Slot) -> 
 
 // Whether a symbol record is good.
 pub fn symbol_good(m: &[u8], used: usize, index: &[u32], at: usize) -> bool
-    requires { ⌜ (at < 4294967296) × (used ≤ mapLimit) × (used ≤ length (now m)) × (used + indexPage ≤ length (now index) * indexPage) × Filled indexBlockSize indexPage used (now index) ⌝ }
+    requires { ⌜ (at < 4294967296) × Indexed (now m) used (now index) ⌝ }
     ensures { λ r. ⌜ r ≡ symbolGood (endsMeet indexBlockSize (now (index .entry))) (now (m .entry)) used at ⌝ }
 {
     if at < Header::SIZE {
@@ -122,7 +122,7 @@ pub fn symbol_good(m: &[u8], used: usize, index: &[u32], at: usize) -> bool
 
 // Whether a symbol entry that says p is used and its record is not good.
 pub fn bad_entry(m: &[u8], used: usize, index: &[u32], p: usize) -> bool
-    requires { ⌜ (p < 4294967296) × (used ≤ mapLimit) × (used ≤ length (now m)) × (used + indexPage ≤ length (now index) * indexPage) × Filled indexBlockSize indexPage used (now index) ⌝ }
+    requires { ⌜ (p < 4294967296) × Indexed (now m) used (now index) ⌝ }
     ensures { λ r. ⌜ ((at : ℕ) → p ≡ u32At (now (m .entry)) at → r ≡ badEntry (endsMeet indexBlockSize (now (index .entry))) (now (m .entry)) used at) ⌝ }
 {
     if p == 0 {

@@ -19,7 +19,7 @@ returns c =
       c .examine-opened .ensures ∙ ap (withFree m) (ap (afterOpened m (a .used)) (o .ensures .0) ∙ sym (verdict-opened m (a .used))),
       λ n f e.
           let g = accepted-open m (a .used) (o .last .1 .1 .0) (o .result) (o .ensures .1) (accepted-free m (afterOpened m (a .used) (o .result)) (c .examine-opened .ensures) e .0) in
-          (g .filled, g .table),
+          (g .indexed .filled, g .table),
     )
 
 pub examine-spec : {M : Type 1} → statement M

@@ -26,12 +26,12 @@ unfolding cellIn
 inside c = omega (arith, c .before .before .before .before .pre .0, c .before .loop .inv .here, c .loop-test .taken)
 
 u32-at-requires : tie.Need-u32-at-requires Inv-loop μ-loop
-u32-at-requires c κs = omega (arith, inside c, c .before .before .before .before .pre .2)
+u32-at-requires c κs = omega (arith, inside c, c .before .before .before .before .pre .1 .room)
 
 bad-entry-requires : tie.Need-bad-entry-requires Inv-loop μ-loop
 bad-entry-requires c κs =
     let pre = c .before .before .before .before .before .pre in
-    (omega arith, pre .1, pre .2, pre .3, pre .4)
+    (omega arith, pre .1)
 
 returns : tie.Need-returns Inv-loop μ-loop
 returns c =

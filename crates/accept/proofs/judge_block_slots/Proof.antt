@@ -37,7 +37,7 @@ inside c = omega (arith, c .before .before .before .before .pre .0, c .before .l
 bad-slot-requires : tie.Need-bad-slot-requires Inv-loop μ-loop
 bad-slot-requires c κs =
     let pre = c .before .before .before .before .before .before .before .pre in
-    (pre .1, pre .2, pre .3, pre .4, c .if1 .left)
+    (pre .1, c .if1 .left)
 
 returns : tie.Need-returns Inv-loop μ-loop
 returns c =

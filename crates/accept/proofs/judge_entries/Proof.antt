@@ -24,7 +24,7 @@ abbrev μ-loop : tie.MeasureT-loop
 loop-holds : tie.Need-loop-holds Inv-loop μ-loop
 loop-holds c =
     let s = c .before .before in
-    along-start (rw (s .pre .6) (taken-pass (symbolRule (now (s .args .m)) (s .args .n)) (now (s .args .m)) (s .args .used))) (omega arith)
+    along-start (rw (s .pre .3) (taken-pass (symbolRule (now (s .args .m)) (s .args .n)) (now (s .args .m)) (s .args .used))) (omega arith)
 
 u32-at-requires : tie.Need-u32-at-requires Inv-loop μ-loop
 u32-at-requires c κs = omega (arith, c .before .loop .inv .room)
@@ -33,11 +33,11 @@ judge-block-entries-requires : tie.Need-judge-block-entries-requires Inv-loop μ
 judge-block-entries-requires c κs =
     let t = c .before in
     let pre = t .before .before .before .before .pre in
-    (along-inside (t .before .loop .inv) (t .loop-test .taken) (c .u32-at .ensures), pre .1, pre .2, pre .3, pre .4)
+    (along-inside (t .before .loop .inv) (t .loop-test .taken) (c .u32-at .ensures), pre .1)
 
 -- what the entries of this turn's block are judged to be, by the chain in the place of the table
 told : (c : tie.After-judge-block-entries Inv-loop μ-loop) → let a = c .before .before .before .before .before .before .args in c .judge-block-entries .result ≡ cellsJudged 6 (λ e. badEntry (touches (now (a .m)) (a .n)) (now (a .m)) (a .used) (cellIn (c .before .u32-at .result) entrySize e)) (cellIn (c .before .u32-at .result) entrySize) 256
-told c = rw (← same-touch (c .before .before .before .before .before .before .pre .5)) (c .judge-block-entries .ensures)
+told c = rw (← same-touch (c .before .before .before .before .before .before .pre .2)) (c .judge-block-entries .ensures)
 
 returns : tie.Need-returns Inv-loop μ-loop
 unfolding entriesJudgedOf

@@ -60,7 +60,7 @@ inside c = along-inside (c .before .loop .inv .0) (c .loop-test .taken) (c .befo
 judge-block-slots-requires : tie.Need-judge-block-slots-requires Inv-loop μ-loop
 judge-block-slots-requires c κs =
     let pre = c .before .before .before .before .before .before .pre in
-    (inside c, pre .limit, pre .room, pre .wide, pre .filled)
+    (inside c, pre .indexed)
 
 -- the first slot of the block at fault, by the chain in the place of the table
 bad : (c : tie.After-judge-block-slots Inv-loop μ-loop) → let l = c .before .before in let a = l .before .before .before .before .before .args in First (λ j. at-fault (now (a .m)) (a .used) (a .n) (cellIn (l .loop .at) slotSize j)) 256 (c .judge-block-slots .result .bad)
@@ -81,7 +81,7 @@ stands c = omega (arith, c .slot .ensures, c .before .new .ensures)
 fits-32 : tie.Need-cast-t14 Inv-loop μ-loop
 fits-32 c =
     let t = c .before .before .before .before .before in
-    omega (arith, c .slot .ensures, c .before .new .ensures, c .before .before .if1 .taken, inside t, t .before .before .before .before .before .before .pre .limit)
+    omega (arith, c .slot .ensures, c .before .new .ensures, c .before .before .if1 .taken, inside t, t .before .before .before .before .before .before .pre .indexed .limit)
 
 returns : tie.Need-returns Inv-loop μ-loop
 unfolding slotsJudgedOf
@@ -144,13 +144,13 @@ judge-slots-spec =
     loop-holds
     judge-block-slots-requires
     (λ c κs. search needs)
-    (λ c κs. (omega (arith, c .new .ensures, inside (c .before .before .before .before), c .before .before .before .before .before .before .before .before .before .before .pre .limit), c .before .if1 .taken))
+    (λ c κs. (omega (arith, c .new .ensures, inside (c .before .before .before .before), c .before .before .before .before .before .before .before .before .before .before .pre .indexed .limit), c .before .if1 .taken))
     fits-32
     returns
     (λ c. omega (arith, pass-few (c .before .before .before .before .before .loop .inv .0 .pass) (omega arith)))
     add-first-free
     (λ c κs. search needs)
-    (λ c κs. omega (arith, inside (c .before .before .before .before .before .before), c .before .before .before .before .before .before .before .before .before .before .before .before .pre .room))
+    (λ c κs. omega (arith, inside (c .before .before .before .before .before .before), c .before .before .before .before .before .before .before .before .before .before .before .before .pre .indexed .room))
     (λ c. search needs)
     (λ c. omega arith)
     (λ c. omega arith)

@@ -14,13 +14,13 @@ use Rattle.accept.proofs.judge_symbol_blocks.Tie as tie
 walk-chain-requires : tie.Need-walk-chain-requires
 walk-chain-requires c κs =
     let pre = c .before .before .before .before .before .pre in
-    (pre .2, symbol-ready (c .before .symbol-kind .ensures) (pre .0) (pre .1) (pre .3) (pre .4) (pre .6), pre .7)
+    (pre .1 .room, symbol-ready (c .before .symbol-kind .ensures) (pre .0) (pre .1 .limit) (pre .1 .wide) (pre .1 .filled) (pre .3), pre .4)
 
 -- the walk's answer, by the rule, and its two cases
 walk : (c : tie.After-walk-chain) → let a = c .before .before .before .before .before .before .args in walked (symbolRule (now (a .m)) (a .n)) (now (a .m)) (a .used) ≡ c .walk-chain .result
 walk c =
     let s = c .before .before .before .before .before .before in
-    walk-by (s .args .used) (symbol-rule (c .before .before .symbol-kind .ensures) (s .pre .5)) refl (c .walk-chain .ensures) .0
+    walk-by (s .args .used) (symbol-rule (c .before .before .symbol-kind .ensures) (s .pre .2)) refl (c .walk-chain .ensures) .0
 
 whole : (c : tie.After-w) → let a = c .before .before .before .before .before .before .before .before .before .before .args in walked (symbolRule (now (a .m)) (a .n)) (now (a .m)) (a .used) ≡ Blocks (c .w .given .0 .0)
 whole c = walk (c .before .before .before .before) ∙ c .w .given .1
@@ -32,13 +32,13 @@ judge-entries-requires : tie.Need-judge-entries-requires
 judge-entries-requires c κs =
     let w = c .before in
     let s = w .before .before .before .before .before .before .before .before .before .before in
-    (s .pre .0, s .pre .1, s .pre .2, s .pre .3, s .pre .4, s .pre .5, taken-of (symbolRule (now (s .args .m)) (s .args .n)) (now (s .args .m)) (s .args .used) (Blocks (w .w .given .0 .0)) (whole w))
+    (s .pre .0, s .pre .1, s .pre .2, taken-of (symbolRule (now (s .args .m)) (s .args .n)) (now (s .args .m)) (s .args .used) (Blocks (w .w .given .0 .0)) (whole w))
 
 judge-entries-requires-2 : tie.Need-judge-entries-requires-2
 judge-entries-requires-2 c κs =
     let w = c .before in
     let s = w .before .before .before .before .before .before .before .before .before .before in
-    (s .pre .0, s .pre .1, s .pre .2, s .pre .3, s .pre .4, s .pre .5, taken-of (symbolRule (now (s .args .m)) (s .args .n)) (now (s .args .m)) (s .args .used) (Fault (w .w2 .given .0 .0) (w .w2 .given .0 .1 .0)) (fault w))
+    (s .pre .0, s .pre .1, s .pre .2, taken-of (symbolRule (now (s .args .m)) (s .args .n)) (now (s .args .m)) (s .args .used) (Fault (w .w2 .given .0 .0) (w .w2 .given .0 .1 .0)) (fault w))
 
 cast-t18 : tie.Need-cast-t18
 cast-t18 c =

@@ -11,6 +11,7 @@ use Rattle.chain.specs.Tables.{Filled, EndsTable}
 use Rattle.chain.proofs.Chains.{Pass, walked-pass}
 use Rattle.chain.proofs.Filling.{fill-filled, fill-table, entry-most, entry-none}
 use Rattle.judge.specs.Rules.{indexRule}
+use Rattle.judge.specs.Indexed.{Indexed}
 use Rattle.accept.specs.Opens.{openedAfter}
 use Rattle.accept.proofs.open_symbols.Statement.{statement}
 use Rattle.accept.proofs.open_symbols.Tie as tie
@@ -34,11 +35,16 @@ filled c = let s = c .before .before .before .before in fill-filled (s .pre .5) 
 table : (c : tie.After-fill) → EndsTable indexBlockSize indexHead indexPage (now (c .before .before .before .before .args .m)) (c .before .before .before .before .args .n) (c .fill .last .0)
 table c = let s = c .before .before .before .before in fill-table (s .pre .5) (c .fill .ensures) (none s) (s .pre .6)
 
+indexed : (c : tie.After-fill) → let a = c .before .before .before .before .args in Indexed (now (a .m)) (a .used) (c .fill .last .0)
+indexed c =
+    let s = c .before .before .before .before in
+    record { limit = s .pre .1; room = s .pre .2; wide = omega (arith, s .pre .3, c .fill .kept .0); filled = filled c }
+
 judge-symbols-requires : tie.Need-judge-symbols-requires
 judge-symbols-requires c κs =
     let f = c .before .before .before in
     let s = f .before .before .before .before in
-    (s .pre .0, s .pre .1, s .pre .2, omega (arith, s .pre .3, f .fill .kept .0), filled f, table f)
+    (s .pre .0, indexed f, table f)
 
 returns : tie.Need-returns
 unfolding openedAfter
@@ -53,11 +59,8 @@ returns-2 c =
       rw (← k .judge-symbols .ensures, c .enum-told .given .1),
       record {
         low = s .pre .0;
-        limit = s .pre .1;
-        room = s .pre .2;
-        wide = omega (arith, s .pre .3, f .fill .kept .0);
+        indexed = indexed f;
         index = s .pre .4;
-        filled = filled f;
         table = table f;
       },
     )

@@ -57,7 +57,7 @@ sym-to-reinstate-requires c κs =
     let s = k .before .before .before .before .before .before in
     let h = holds s in
     let e = found k .0 ∙ c .before .enum-told3 .given .1 in
-    (h .low, h .limit, h .room, s .pre .2, s .pre .1 .filled, λ z. erased-len _ e (ap (λ (t : Slot). t .len) (found k .1) ∙ z))
+    (h .low, record { limit = h .limit; room = h .room; wide = s .pre .2; filled = s .pre .1 .filled }, λ z. erased-len _ e (ap (λ (t : Slot). t .len) (found k .1) ∙ z))
 
 returns-2 : tie.Need-returns-2
 returns-2 c =

@@ -30,7 +30,7 @@ inside c = omega (arith, c .before .before .before .before .before .pre .0, c .l
 look-in-word-requires : tie.Need-look-in-word-requires Inv-loop μ-loop
 look-in-word-requires c κs =
     let pre = c .before .before .before .before .before .pre in
-    (inside c, pre .1, pre .2, pre .3, pre .4)
+    (inside c, pre .1)
 
 -- the first at fault in the word
 bad : (c : tie.After-look-in-word Inv-loop μ-loop) → let l = c .before .before in let a = l .before .before .before .before .args in First (λ j. badSlot (endsMeet indexBlockSize (now (a .index))) (now (a .m)) (a .used) (a .version) (slotFrom (a .block + 4 + wordBits * slotSize * l .loop .q) j)) wordBits (c .look-in-word .result .bad)
@@ -49,7 +49,7 @@ returns c =
 slice-write-words : tie.Need-slice-write-words Inv-loop μ-loop
 slice-write-words c =
     let t = c .before .before .before in
-    omega (arith, t .before .before .before .before .before .pre .7, t .before .loop .inv .kept, t .loop-test .taken)
+    omega (arith, t .before .before .before .before .before .pre .4, t .before .loop .inv .kept, t .loop-test .taken)
 
 -- none of the word's slots is at fault: they have their bits
 bits : (c : tie.After-struct-known3 Inv-loop μ-loop) → let x = c .before .before .before in let l = x .before .before in let a = l .before .before .before .before .args in x .look-in-word .result .bits ≡ bitsFrom (liveFrom (now (a .m)) (a .w) (a .block + 4 + wordBits * slotSize * l .loop .q)) 0 wordBits
@@ -67,7 +67,7 @@ loop-again c =
     let x = c .before .before .before in
     let t = x .before in
     let pre = t .before .before .before .before .before .pre in
-    rows-on (t .before .loop .inv) (t .loop-test .taken) refl (pre .5) (bad x) (c .before .if1 .left) (pre .7) (bits c) (ap (λ (i : ℕ). t .before .loop .count + i) (hits c))
+    rows-on (t .before .loop .inv) (t .loop-test .taken) refl (pre .2) (bad x) (c .before .if1 .left) (pre .4) (bits c) (ap (λ (i : ℕ). t .before .loop .count + i) (hits c))
 
 returns-2 : tie.Need-returns-2 Inv-loop μ-loop
 returns-2 c = let r = c .before .loop .inv in (rows-none r (c .loop-test .left), λ e. rows-done r (c .loop-test .left))
@@ -78,22 +78,22 @@ look-in-block-spec =
     (tie.spec
     Inv-loop
     μ-loop
-    (λ c. rows-start (c .before .before .before .pre .8) (c .before .before .before .pre .9))
-    (λ c. omega (arith, inside c, c .before .before .before .before .before .pre .1))
+    (λ c. rows-start (c .before .before .before .pre .5) (c .before .before .before .pre .6))
+    (λ c. omega (arith, inside c, c .before .before .before .before .before .pre .1 .limit))
     (λ c. omega arith)
     (λ c. omega (arith, c .loop-test .taken))
-    (λ c. omega (arith, inside c, c .before .before .before .before .before .pre .1))
+    (λ c. omega (arith, inside c, c .before .before .before .before .before .pre .1 .limit))
     look-in-word-requires
     (λ c. omega (arith, c .before .before .before .loop-test .taken))
     (λ c. omega (arith, c .before .before .before .before .loop-test .taken, c .before .if1 .taken))
     (λ c. c .before .before .before .before .before .loop .inv .kept)
     returns
-    (λ c. omega (arith, c .before .before .before .before .before .before .before .before .pre .6))
-    (λ c. omega (arith, c .before .before .before .before .before .before .before .before .pre .6, c .before .before .before .loop-test .taken))
-    (λ c. omega (arith, c .before .before .before .before .before .before .before .before .pre .6, c .before .before .before .loop-test .taken))
+    (λ c. omega (arith, c .before .before .before .before .before .before .before .before .pre .3))
+    (λ c. omega (arith, c .before .before .before .before .before .before .before .before .pre .3, c .before .before .before .loop-test .taken))
+    (λ c. omega (arith, c .before .before .before .before .before .before .before .before .pre .3, c .before .before .before .loop-test .taken))
     slice-write-words
     (λ c. omega (arith, few c))
-    (λ c. let t = c .before .before .before .before in omega (arith, few c, rows-few (t .before .loop .inv), t .loop-test .taken, t .before .before .before .before .before .pre .6))
+    (λ c. let t = c .before .before .before .before in omega (arith, few c, rows-few (t .before .loop .inv), t .loop-test .taken, t .before .before .before .before .before .pre .3))
     (λ c. omega (arith, c .before .before .before .before .loop-test .taken))
     (λ c. omega (arith, c .before .before .before .before .loop-test .taken))
     loop-again

@@ -36,7 +36,7 @@ inside c = mark-inside (c .before .loop .inv) (c .loop-test .taken)
 low : (c : tie.In-loop Inv-loop μ-loop) → c .before .loop .k < mostBlocks
 low c =
     let s = c .before .before .before .before .before .before .before in
-    omega (arith, most-blocks (c .before .loop .inv .along .pass) (s .pre .0 .limit), c .loop-test .taken)
+    omega (arith, most-blocks (c .before .loop .inv .along .pass) (s .pre .0 .indexed .limit), c .loop-test .taken)
 
 look-in-block-requires : tie.Need-look-in-block-requires Inv-loop μ-loop
 look-in-block-requires c κs =
@@ -44,7 +44,7 @@ look-in-block-requires c κs =
     let r = t .before .loop .inv in
     let s = t .before .before .before .before .before .before .before in
     let o = s .pre .0 in
-    (inside t, o .limit, o .room, o .wide, o .filled, mark-slots r (t .loop-test .taken), low t, omega (arith, s .pre .1, r .kept, t .loop-test .taken), r .counted, r .marked)
+    (inside t, o .indexed, mark-slots r (t .loop-test .taken), low t, omega (arith, s .pre .1, r .kept, t .loop-test .taken), r .counted, r .marked)
 
 -- the first slot of the block at fault, by the chain in the place of the table
 bad : (c : tie.After-look-in-block Inv-loop μ-loop) → let l = c .before .before .before in let a = l .before .before .before .before .before .before .args in First (λ j. atFault (now (a .m)) (a .used) (a .n) (cellIn (l .loop .at) slotSize j)) 256 (c .look-in-block .result .bad)
@@ -67,7 +67,7 @@ returns c =
     let s = t .before .before .before .before .before .before .before in (
       λ e. absurd (omega (arith, e, c .slot .ensures)),
       λ e. mark-bad (t .before .loop .inv) (t .loop-test .taken) (bad b) (c .before .before .if1 .taken) ∙ ap (Bad 7) (sym (stands c)),
-      omega (arith, c .slot .ensures, c .before .new .ensures, c .before .before .if1 .taken, inside t, s .pre .0 .limit),
+      omega (arith, c .slot .ensures, c .before .new .ensures, c .before .before .if1 .taken, inside t, s .pre .0 .indexed .limit),
     )
 
 loop-again : tie.Need-loop-again Inv-loop μ-loop
@@ -86,16 +86,16 @@ look-in-slots-spec =
     (tie.spec
     Inv-loop
     μ-loop
-    (λ c κs. let s = c .before .before .before in omega (arith, s .pre .0 .low, s .pre .0 .room))
-    (λ c κs. let s = c .before .before .before .before in omega (arith, s .pre .0 .low, s .pre .0 .room))
+    (λ c κs. let s = c .before .before .before in omega (arith, s .pre .0 .low, s .pre .0 .indexed .room))
+    (λ c κs. let s = c .before .before .before .before in omega (arith, s .pre .0 .low, s .pre .0 .indexed .room))
     (λ c. search needs)
     loop-holds
     look-in-block-requires
     (λ c κs. search needs)
-    (λ c κs. let t = c .before .before .before .before .before .before .before in (omega (arith, c .new .ensures, inside t, t .before .before .before .before .before .before .before .pre .0 .limit), c .before .if1 .taken))
+    (λ c κs. let t = c .before .before .before .before .before .before .before in (omega (arith, c .new .ensures, inside t, t .before .before .before .before .before .before .before .pre .0 .indexed .limit), c .before .if1 .taken))
     (λ c. let b = c .before .before .before .before .before .before in b .look-in-block .kept .1 .1 .1 .1 .1 .1 .1 .0 ∙ b .before .before .before .loop .inv .kept)
     returns
-    (λ c κs. let t = c .before .before .before .before .before .before in omega (arith, inside t, t .before .before .before .before .before .before .before .pre .0 .room))
+    (λ c κs. let t = c .before .before .before .before .before .before in omega (arith, inside t, t .before .before .before .before .before .before .before .pre .0 .indexed .room))
     (λ c. search needs)
     (λ c. omega (arith, low (c .before .before .before .before .before .before .before)))
     (λ c. omega (arith, c .before .before .before .before .before .before .before .loop-test .taken))

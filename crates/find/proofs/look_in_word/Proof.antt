@@ -39,7 +39,7 @@ inside c = omega (arith, c .before .before .before .before .pre .0, c .before .l
 bad-slot-requires : tie.Need-bad-slot-requires Inv-loop μ-loop
 bad-slot-requires c κs =
     let pre = c .before .before .before .before .before .before .before .pre in
-    (pre .1, pre .2, pre .3, pre .4, c .if1 .taken)
+    (pre .1, c .if1 .taken)
 
 returns : tie.Need-returns Inv-loop μ-loop
 returns c =
@@ -97,7 +97,7 @@ look-in-word-spec =
     Inv-loop
     μ-loop
     loop-holds
-    (λ c κs. omega (arith, inside c, c .before .before .before .before .pre .2))
+    (λ c κs. omega (arith, inside c, c .before .before .before .before .pre .1 .room))
     bad-slot-requires
     returns
     (λ c κs. tt)
@@ -106,7 +106,7 @@ look-in-word-spec =
     (λ c.
     let l = c .before .before .before .before .before .before .before .before .before in
     omega (arith, one-at-most (c .meets-window .result), looks-low (l .loop .inv .1) (l .loop .inv .0 .upto)))
-    (λ c. omega (arith, inside (c .before .before .before), c .before .before .before .before .before .before .before .pre .1))
+    (λ c. omega (arith, inside (c .before .before .before), c .before .before .before .before .before .before .before .pre .1 .limit))
     (λ c. omega (arith, c .before .before .before .loop-test .taken))
     (λ c. omega (arith, c .before .before .before .loop-test .taken))
     loop-again

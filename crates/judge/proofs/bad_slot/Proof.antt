@@ -13,14 +13,14 @@ returns : tie.Need-returns
 returns c at e =
     let s = c .before .before .before .before in
     let a = s .args in
-    sym (fault-erased (endsMeet indexBlockSize (now (a .index))) (now (a .m)) (a .used) (a .version) at e (s .pre .4) (c .if1 .taken))
+    sym (fault-erased (endsMeet indexBlockSize (now (a .index))) (now (a .m)) (a .used) (a .version) at e (s .pre .1) (c .if1 .taken))
 
 returns-2 : tie.Need-returns-2
 returns-2 c at e =
     let s = c .before .before .before .before .before in
     let a = s .args in
     ap not (c .slot-good .ensures)
-    ∙ sym (fault-live (endsMeet indexBlockSize (now (a .index))) (now (a .m)) (a .used) (a .version) at e (s .pre .4) (c .before .if1 .left))
+    ∙ sym (fault-live (endsMeet indexBlockSize (now (a .index))) (now (a .m)) (a .used) (a .version) at e (s .pre .1) (c .before .if1 .left))
 
 pub bad-slot-spec : {M : Type 1} → statement M
 bad-slot-spec = tie.close (tie.spec returns (λ c κs. search needs) returns-2)

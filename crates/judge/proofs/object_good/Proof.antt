@@ -20,7 +20,7 @@ returns : tie.Need-returns
 returns c =
     let b = c .before .before in
     let s = b .before .before .before .before in
-    rw (out-of-range (s .args .version) (s .args .t .len) (s .pre .4) (omega arith) (rw (b .bytes-in .ensures) at (fails (c .before .bytes-in-range .ensures) (c .if1 .taken))))
+    rw (out-of-range (s .args .version) (s .args .t .len) (s .pre .1) (omega arith) (rw (b .bytes-in .ensures) at (fails (c .before .bytes-in-range .ensures) (c .if1 .taken))))
 
 -- the object's bytes lie in the range
 ranges : (c : tie.Else1) → bytesInRange (c .before .before .bytes-in .result) ≡ true
@@ -42,7 +42,7 @@ meets-block-requires c κs =
     let b = c .before .before .before .before in
     let s = b .before .before .before .before in
     let l = in-range (b .bytes-in .result) (ranges (c .before .before)) in
-    (omega arith, omega arith, omega arith, omega (arith, l), omega arith, omega arith, filled-less (omega arith) (s .pre .3))
+    (omega arith, omega arith, omega arith, omega (arith, l), omega arith, omega arith, filled-less (omega arith) (s .pre .0 .filled))
 
 returns-4 : tie.Need-returns-4
 unfolding objectGood

@@ -39,7 +39,7 @@ meets-block-requires : tie.Need-meets-block-requires
 meets-block-requires c κs =
     let s = c .before .before .before .before .before .before .before .before in
     let l = size-two _ (passes (c .before .before .size-good .ensures) (c .before .if3 .left)) in
-    (omega arith, omega arith, omega arith, omega arith, omega arith, omega arith, filled-less (omega arith) (s .pre .4))
+    (omega arith, omega arith, omega arith, omega arith, omega arith, omega arith, filled-less (omega arith) (s .pre .1 .filled))
 
 returns-5 : tie.Need-returns-5
 unfolding symbolGood

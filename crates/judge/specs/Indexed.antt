@@ -1,0 +1,13 @@
+-- For the contracts within the check, the search and the edits: a map with the table of its index blocks.
+--     Indexed m used t     the first `used` bytes of the buffer m have a map's length at most, and the table t is filled, with an entry for each of their pages
+use Prim.Native.Nat.{ℕ, _+_, _*_, _≤_}
+use mathlib.Core.List.{List}
+use lib.ListN.{length}
+use Rattle.records.specs.Sizes.{mapLimit, indexBlockSize, indexPage}
+use Rattle.chain.specs.Tables.{Filled}
+
+pub record Indexed (m : List ℕ) (used : ℕ) (t : List ℕ) : Type 0 where
+  pub limit : used ≤ mapLimit
+  pub room : used ≤ length m
+  pub wide : used + indexPage ≤ length t * indexPage
+  pub filled : Filled indexBlockSize indexPage used t
