@@ -1,37 +1,26 @@
 // The search by rectangle: one pass over the slots, which judges each and has a bit for it, and then the list of the bits that are 1.
+mod look;
+
 use accept::Opened;
 use accept::Verdict;
 use accept::open_map;
-use bits::WORD;
 use bits::list_words;
-use judge::bad_slot;
-use numbers::u16_at;
-use numbers::u32_at;
+use look::BLOCK_WORDS;
+use look::look_in_slots;
 use records::Header;
 use slots::IndexBlock;
-use slots::Slot;
 use windows::Window;
-use windows::meets_window;
 use windows::window_good;
 ghost use mathlib.Core.Path.{_≡_};
 ghost use mathlib.Core.Bool.{true, false};
-ghost use Prim.Native.Nat.{ℕ, _+_, _*_, _≤_, _<_};
+ghost use Prim.Native.Nat.{ℕ, _*_, _≤_, _<_};
 ghost use lib.ListN.{length};
-ghost use Rattle.numbers.specs.Below.{first, sel};
-ghost use Rattle.records.specs.Sizes.{indexBlockSize, mostBlocks, slotSize, mapLimit};
 ghost use Rattle.windows.specs.declared.Window.{Window};
 ghost use Rattle.windows.specs.Windows.{windowGood};
-ghost use Rattle.bits.specs.Bits.{bitsFrom, wordBits};
-ghost use Rattle.chain.specs.Cells.{cellIn};
-ghost use Rattle.chain.specs.Tables.{endsMeet};
-ghost use Rattle.accept.specs.declared.Judged.the-variants.{Good, Bad};
-ghost use Rattle.judge.specs.Indexed.{Indexed};
-ghost use Rattle.judge.specs.Judging.{badSlot};
 ghost use Rattle.accept.specs.Opens.{Open, Opens, openedOf};
 ghost use Rattle.accept.specs.declared.Opened.the-variants.{Blocks};
-ghost use Rattle.accept.specs.Verdicts.{slotsJudged};
-ghost use Rattle.find.specs.Searches.{numberOf, placeOf, countOf, blocksOf, checkedLength, SlotsOf, liveIn, found, answerOf, listAfter};
-ghost use Rattle.find.specs.Looks.{blockWords, slotFrom, liveFrom, Marked};
+ghost use Rattle.find.specs.Searches.{numberOf, placeOf, countOf, blocksOf, checkedLength, answerOf, listAfter};
+ghost use Rattle.find.specs.Looks.{blockWords};
 ghost use Rattle.find.specs.Inputs.{inputAnswer, inputList};
 
 // What a search answers: the count found and the blocks walked; or the count that the list is too short for; or a refusal.
@@ -111,121 +100,6 @@ pub fn checked_length(m: &[u8], used: usize) -> usize
         return 0;
     }
     used
-}
-
-// What a word's slots are: the first at fault, 64 where none is. Where none is, which of them are live and meet the window, as bits, the first the lowest.
-struct Word {
-    bits: u64,
-    bad: usize,
-}
-
-// The bits of an index block's slots are so many words.
-const BLOCK_WORDS: usize = 4;
-
-// The highest bit of a word.
-const HIGH: u64 = 9223372036854775808;
-
-// A word's slots in a row, from a place on: judged, and looked at, up to the first at fault.
-fn look_in_word(m: &[u8], used: usize, version: u16, index: &[u32], from: usize, w: Window) -> Word
-    requires { ⌜ (from + wordBits * slotSize ≤ used) × Indexed (now m) used (now index) ⌝ }
-    ensures { λ r. ⌜ (r .bad ≡ first (λ j. badSlot (endsMeet indexBlockSize (now (index .entry))) (now (m .entry)) used version (slotFrom from j)) wordBits) × (r .bad ≡ wordBits → r .bits ≡ bitsFrom (liveFrom (now (m .entry)) w from) 0 wordBits) ⌝ }
-{
-    let mut at = from;
-    let mut bits = 0u64;
-    let mut j = 0usize;
-    while j < WORD {
-        let t = Slot::at(m, at);
-        bits = bits / 2;
-        if t.len != 0 {
-            if bad_slot(m, used, version, index, t) {
-                return Word { bits, bad: j };
-            }
-            if t.sym != 0 {
-                let hit = meets_window(t, w);
-                bits += hit as u64 * HIGH;
-            }
-        }
-        at += Slot::SIZE;
-        j += 1;
-    }
-    Word { bits, bad: WORD }
-}
-
-// What the slots of a block, or of all blocks, are: the first at fault; and, where none is, how many are found.
-struct Looked {
-    bad: usize,
-    count: usize,
-}
-
-// The 256 slots of index block k: judged, and looked at, up to the first at fault; 256 where none is. So many were found before, in the blocks before. The slots' bits
-// go to the block's words.
-fn look_in_block(
-    m: &[u8],
-    used: usize,
-    version: u16,
-    index: &[u32],
-    block: usize,
-    k: usize,
-    w: Window,
-    words: &mut [u64],
-    before: usize,
-) -> Looked
-    requires { ⌜ (block + indexBlockSize ≤ used) × Indexed (now m) used (now index) × SlotsOf (now m) block (256 * k) × (k < mostBlocks) × (blockWords * k + blockWords ≤ length (now words)) × (before ≡ length (sel (liveIn (now m) w) (256 * k))) × Marked (now m) w (now words) (blockWords * k) ⌝ }
-    ensures { λ r. ⌜ (r .bad ≡ first (λ j. badSlot (endsMeet indexBlockSize (now (index .entry))) (now (m .entry)) used version (cellIn block slotSize j)) 256) × (r .bad ≡ 256 → (r .count ≡ length (sel (liveIn (now (m .entry)) w) (256 * k + 256))) × Marked (now (m .entry)) w (now (words .exit)) (blockWords * k + blockWords)) ⌝ }
-{
-    let mut count = before;
-    let mut q = 0usize;
-    while q < BLOCK_WORDS {
-        let x = look_in_word(
-            m,
-            used,
-            version,
-            index,
-            block + 4 + WORD * Slot::SIZE * q,
-            w,
-        );
-        if x.bad < WORD {
-            return Looked {
-                bad: WORD * q + x.bad,
-                count,
-            };
-        }
-        words[BLOCK_WORDS * k + q] = x.bits;
-        count += u64::count_ones(x.bits) as usize;
-        q += 1;
-    }
-    Looked { bad: 256, count }
-}
-
-// The slots of an open map's n index blocks, up to the first at fault: its place, 0 where none is.
-fn look_in_slots(
-    m: &[u8],
-    used: usize,
-    index: &[u32],
-    n: usize,
-    w: Window,
-    words: &mut [u64],
-) -> Looked
-    requires { ⌜ Open (now m) used n (now index) × (blockWords * n ≤ length (now words)) ⌝ }
-    ensures { λ r. ⌜ (r .bad ≡ 0 → (slotsJudged (now (m .entry)) used n ≡ Good) × (r .count ≡ length (found (now (m .entry)) n w)) × Marked (now (m .entry)) w (now (words .exit)) (blockWords * n)) × ((r .bad ≡ 0 → ⊥) → slotsJudged (now (m .entry)) used n ≡ Bad 7 (r .bad)) × (r .bad ≤ mapLimit) ⌝ }
-{
-    let version = u16_at(m, Header::VERSION);
-    let mut at = u32_at(m, Header::INDEX) as usize;
-    let mut count = 0;
-    let mut k = 0;
-    while k < n {
-        let seen = look_in_block(m, used, version, index, at, k, w, words, count);
-        if seen.bad < 256 {
-            return Looked {
-                bad: IndexBlock::new(at).slot(seen.bad),
-                count,
-            };
-        }
-        count = seen.count;
-        at = u32_at(m, at) as usize;
-        k += 1;
-    }
-    Looked { bad: 0, count }
 }
 
 // The search of an open map by a good window, with words enough for a bit for each slot: all slots are judged and looked at before the list is touched.

@@ -1,0 +1,88 @@
+-- `accept::entries::judge_symbol_blocks` meets its contract: the walk's answer, and of the blocks that were taken the entries first. Assumes nothing.
+use native.Mathlib.Omega.{arith}
+use mathlib.Core.Path.{_≡_, refl, sym, _∙_}
+use denote.Ref.{now}
+use borrow.Author.Needs.{needs}
+use Rattle.chain.specs.declared.Walk.the-variants.{Blocks, Fault}
+use Rattle.chain.specs.Chains.{walked}
+use Rattle.judge.specs.Rules.{symbolRule}
+use Rattle.judge.proofs.Rules.{symbol-rule, symbol-ready, walk-by, fault-fits}
+use Rattle.accept.proofs.Verdicts.{taken-of, symbols-is, first-good}
+use Rattle.accept.proofs.entries.judge_symbol_blocks.Statement.{statement}
+use Rattle.accept.proofs.entries.judge_symbol_blocks.Tie as tie
+
+walk-chain-requires : tie.Need-walk-chain-requires
+walk-chain-requires c κs =
+    let pre = c .before .before .before .before .before .pre in
+    (pre .1 .room, symbol-ready (c .before .symbol-kind .ensures) (pre .0) (pre .1 .limit) (pre .1 .wide) (pre .1 .filled) (pre .3), pre .4)
+
+-- the walk's answer, by the rule, and its two cases
+walk : (c : tie.After-walk-chain) → let a = c .before .before .before .before .before .before .args in walked (symbolRule (now (a .m)) (a .n)) (now (a .m)) (a .used) ≡ c .walk-chain .result
+walk c =
+    let s = c .before .before .before .before .before .before in
+    walk-by (s .args .used) (symbol-rule (c .before .before .symbol-kind .ensures) (s .pre .2)) refl (c .walk-chain .ensures) .0
+
+whole : (c : tie.After-w) → let a = c .before .before .before .before .before .before .before .before .before .before .args in walked (symbolRule (now (a .m)) (a .n)) (now (a .m)) (a .used) ≡ Blocks (c .w .given .0 .0)
+whole c = walk (c .before .before .before .before) ∙ c .w .given .1
+
+fault : (c : tie.After-w2) → let a = c .before .before .before .before .before .before .before .before .before .before .args in walked (symbolRule (now (a .m)) (a .n)) (now (a .m)) (a .used) ≡ Fault (c .w2 .given .0 .0) (c .w2 .given .0 .1 .0)
+fault c = walk (c .before .before .before .before) ∙ c .w2 .given .1
+
+judge-entries-requires : tie.Need-judge-entries-requires
+judge-entries-requires c κs =
+    let w = c .before in
+    let s = w .before .before .before .before .before .before .before .before .before .before in
+    (s .pre .0, s .pre .1, s .pre .2, taken-of (symbolRule (now (s .args .m)) (s .args .n)) (now (s .args .m)) (s .args .used) (Blocks (w .w .given .0 .0)) (whole w))
+
+judge-entries-requires-2 : tie.Need-judge-entries-requires-2
+judge-entries-requires-2 c κs =
+    let w = c .before in
+    let s = w .before .before .before .before .before .before .before .before .before .before in
+    (s .pre .0, s .pre .1, s .pre .2, taken-of (symbolRule (now (s .args .m)) (s .args .n)) (now (s .args .m)) (s .args .used) (Fault (w .w2 .given .0 .0) (w .w2 .given .0 .1 .0)) (fault w))
+
+cast-t18 : tie.Need-cast-t18
+cast-t18 c =
+    let w = c .before .before .before .before in
+    let k = w .before .before .before .before .before .before .before .before .before in
+    let a = k .before .args in
+    omega (arith, fault-fits (symbolRule (now (a .m)) (a .n)) (now (a .m)) (a .used) (λ i. k .shared-slice-known .given i .fits) (omega arith) (fault w))
+
+returns : tie.Need-returns
+returns c =
+    let w = c .before .before in
+    let a = w .before .before .before .before .before .before .before .before .before .before .args in
+    sym (symbols-is (now (a .m)) (a .used) (a .n) (whole w) (c .judge-entries .ensures) ∙ first-good (c .judge-entries .result))
+
+returns-2 : tie.Need-returns-2
+returns-2 c =
+    let k = c .before .before in
+    let w = k .before .before in
+    let a = w .before .before .before .before .before .before .before .before .before .before .args in
+    sym (symbols-is (now (a .m)) (a .used) (a .n) (fault w) (sym (c .enum-told .given .1) ∙ k .judge-entries2 .ensures))
+
+returns-3 : tie.Need-returns-3
+returns-3 c =
+    let k = c .before .before .before in
+    let w = k .before .before in
+    let a = w .before .before .before .before .before .before .before .before .before .before .args in
+    sym (symbols-is (now (a .m)) (a .used) (a .n) (fault w) (sym (c .before .j .given .1) ∙ k .judge-entries2 .ensures))
+
+pub judge-symbol-blocks-spec : {M : Type 1} → statement M
+judge-symbol-blocks-spec =
+    tie.close
+    (tie.spec
+    (λ c κs. search needs)
+    walk-chain-requires
+    (λ c. search needs)
+    judge-entries-requires
+    (λ c. search needs)
+    judge-entries-requires-2
+    (λ c. search needs)
+    cast-t18
+    (λ c. search needs)
+    (λ c. search needs)
+    returns
+    (λ c. search needs)
+    returns-2
+    (λ c. search needs)
+    returns-3)

@@ -1,0 +1,129 @@
+// 6: the symbol blocks and their entries.
+use super::Judged;
+use chain::Walk;
+use chain::walk_chain;
+use judge::bad_entry;
+use judge::symbol_kind;
+use numbers::u32_at;
+use records::Header;
+use records::SymbolBlock;
+ghost use mathlib.Core.Path.{_≡_};
+ghost use Prim.Native.Nat.{_+_, _*_, _≤_, _<_};
+ghost use lib.ListN.{length};
+ghost use Rattle.records.specs.Sizes.{headerSize, indexBlockSize, indexPage, symbolBlockSize, symbolPage, entrySize, smallMap, middleMap};
+ghost use Rattle.records.specs.Headers.{indexHead};
+ghost use Rattle.chain.specs.Chains.{taken};
+ghost use Rattle.chain.specs.Cells.{cellIn};
+ghost use Rattle.chain.specs.Tables.{Empty, EndsTable, endsMeet};
+ghost use Rattle.chain.specs.declared.Walk.the-variants.{Blocks};
+ghost use Rattle.judge.specs.Indexed.{Indexed};
+ghost use Rattle.judge.specs.Rules.{symbolRule};
+ghost use Rattle.judge.specs.Judging.{badEntry};
+ghost use Rattle.accept.specs.Verdicts.{cellsJudged, entriesJudged, symbolsJudged};
+
+// 6, of one symbol block: the first entry at fault.
+fn judge_block_entries(m: &[u8], used: usize, index: &[u32], block: usize) -> Judged
+    requires { ⌜ (block + symbolBlockSize ≤ used) × Indexed (now m) used (now index) ⌝ }
+    ensures { λ r. ⌜ r ≡ cellsJudged 6 (λ e. badEntry (endsMeet indexBlockSize (now (index .entry))) (now (m .entry)) used (cellIn block entrySize e)) (cellIn block entrySize) 256 ⌝ }
+{
+    let mut at = block + 4;
+    let mut e = 0usize;
+    while e < 256 {
+        let p = u32_at(m, at) as usize;
+        if bad_entry(m, used, index, p) {
+            return Judged::Bad {
+                number: 6,
+                place: at as u32,
+            };
+        }
+        at += SymbolBlock::ENTRY;
+        e += 1;
+    }
+    Judged::Good
+}
+
+// 6, of the first k symbol blocks: the first entry at fault.
+fn judge_entries(m: &[u8], used: usize, index: &[u32], n: usize, k: usize) -> Judged
+    requires { ⌜ (headerSize ≤ used) × Indexed (now m) used (now index) × EndsTable indexBlockSize indexHead indexPage (now m) n (now index) × (k ≡ taken (symbolRule (now m) n) (now m) used) ⌝ }
+    ensures { λ r. ⌜ r ≡ entriesJudged (now (m .entry)) used n k ⌝ }
+{
+    let mut at = Header::SYMBOLS;
+    let mut i = 0;
+    while i < k {
+        at = u32_at(m, at) as usize;
+        let j = judge_block_entries(m, used, index, at);
+        match j {
+            Judged::Bad { number, place } => {
+                return Judged::Bad { number, place };
+            }
+            Judged::Good => {}
+        }
+        i += 1;
+    }
+    Judged::Good
+}
+
+// 6: the symbol blocks and their entries. A table for the blocks is lent, empty before.
+fn judge_symbol_blocks(m: &[u8], used: usize, index: &[u32], n: usize, t: &mut [u32]) -> Judged
+    requires { ⌜ (headerSize ≤ used) × Indexed (now m) used (now index) × EndsTable indexBlockSize indexHead indexPage (now m) n (now index) × (used + symbolPage ≤ length (now t) * symbolPage) × Empty (now t) ⌝ }
+    ensures { λ r. ⌜ r ≡ symbolsJudged (now (m .entry)) used n ⌝ }
+{
+    let w = walk_chain(m, used, symbol_kind(), index, t);
+    match w {
+        Walk::Blocks(k) => judge_entries(m, used, index, n, k),
+        Walk::Fault { place, taken } => {
+            let j = judge_entries(m, used, index, n, taken);
+            match j {
+                Judged::Good => Judged::Bad {
+                    number: 6,
+                    place: place as u32,
+                },
+                Judged::Bad { number, place } => Judged::Bad { number, place },
+            }
+        }
+    }
+}
+
+// 6, of a small map. Each size of the table stands in a function of its own: so the compiler gives them the same room.
+fn small_symbols(m: &[u8], used: usize, index: &[u32], n: usize) -> Judged
+    requires { ⌜ (headerSize ≤ used) × (used ≤ smallMap) × Indexed (now m) used (now index) × EndsTable indexBlockSize indexHead indexPage (now m) n (now index) ⌝ }
+    ensures { λ r. ⌜ r ≡ symbolsJudged (now (m .entry)) used n ⌝ }
+{
+    let mut t = [0u32; SymbolBlock::SMALL_TABLE];
+    judge_symbol_blocks(m, used, index, n, &mut t)
+}
+
+// 6, of a map of middle size.
+fn middle_symbols(m: &[u8], used: usize, index: &[u32], n: usize) -> Judged
+    requires { ⌜ (headerSize ≤ used) × (used ≤ middleMap) × Indexed (now m) used (now index) × EndsTable indexBlockSize indexHead indexPage (now m) n (now index) ⌝ }
+    ensures { λ r. ⌜ r ≡ symbolsJudged (now (m .entry)) used n ⌝ }
+{
+    let mut t = [0u32; SymbolBlock::MIDDLE_TABLE];
+    judge_symbol_blocks(m, used, index, n, &mut t)
+}
+
+// 6, of any map.
+fn large_symbols(m: &[u8], used: usize, index: &[u32], n: usize) -> Judged
+    requires { ⌜ (headerSize ≤ used) × Indexed (now m) used (now index) × EndsTable indexBlockSize indexHead indexPage (now m) n (now index) ⌝ }
+    ensures { λ r. ⌜ r ≡ symbolsJudged (now (m .entry)) used n ⌝ }
+{
+    let mut t = [0u32; SymbolBlock::TABLE];
+    judge_symbol_blocks(m, used, index, n, &mut t)
+}
+
+// 6, with a table as large as the map needs: none where there are no symbol blocks.
+pub fn judge_symbols(m: &[u8], used: usize, index: &[u32], n: usize) -> Judged
+    requires { ⌜ (headerSize ≤ used) × Indexed (now m) used (now index) × EndsTable indexBlockSize indexHead indexPage (now m) n (now index) ⌝ }
+    ensures { λ r. ⌜ r ≡ symbolsJudged (now (m .entry)) used n ⌝ }
+{
+    if u32_at(m, Header::SYMBOLS) == 0 {
+        return Judged::Good;
+    }
+    if used <= Header::SMALL {
+        return small_symbols(m, used, index, n);
+    }
+    if used <= Header::MIDDLE {
+        return middle_symbols(m, used, index, n);
+    }
+    large_symbols(m, used, index, n)
+}
