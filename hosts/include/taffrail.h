@@ -4,7 +4,8 @@
  * parameter, on a refusal too. No call needs anything checked beforehand: any bytes at all may stand in a buffer, and any number in an argument.
  *
  * What the caller sees to: a pointer with a length other than 0 points to that many bytes (or numbers) that live through the call, buffers and out parameters
- * of one call do not overlap, and no other thread touches them meanwhile. A pointer with length 0 is not followed, but is not NULL.
+ * of one call do not overlap, and no other thread touches them meanwhile. A pointer with length 0 is not followed, but is not NULL. A call needs at most
+ * 112 KiB of stack and no heap, so a thread with 128 KiB will do.
  *
  *   map, map_len    the buffer in which the map stands; used is the map's length within it, so map_len - used bytes are free for adds
  *   journal         the journal of done edits, 16 bytes a record; all zero is an empty one. Its length is a multiple of 16, at most 65,536
