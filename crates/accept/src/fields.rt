@@ -1,6 +1,5 @@
 // 1 to 4: the length, the mark, the version pair, setup and info.
 use super::Judged;
-use chain::Walk;
 use judge::part_good;
 use records::Header;
 use records::pair_good;

@@ -1,6 +1,5 @@
 // 7: the live slots; and the first free one.
 use super::Examined;
-use chain::Walk;
 use judge::bad_slot;
 use numbers::u16_at;
 use numbers::u32_at;
