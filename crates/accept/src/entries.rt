@@ -6,6 +6,7 @@ use judge::bad_entry;
 use judge::symbol_kind;
 use numbers::u32_at;
 use records::Header;
+use records::LINK;
 use records::SymbolBlock;
 ghost use mathlib.Core.Path.{_≡_};
 ghost use Prim.Native.Nat.{_+_, _*_, _≤_, _<_};
@@ -26,9 +27,9 @@ fn judge_block_entries(m: &[u8], used: usize, index: &[u32], block: usize) -> Ju
     requires { ⌜ (block + symbolBlockSize ≤ used) × Indexed (now m) used (now index) ⌝ }
     ensures { λ r. ⌜ r ≡ cellsJudged 6 (λ e. badEntry (endsMeet indexBlockSize (now (index .entry))) (now (m .entry)) used (cellIn block entrySize e)) (cellIn block entrySize) 256 ⌝ }
 {
-    let mut at = block + 4;
+    let mut at = block + LINK;
     let mut e = 0usize;
-    while e < 256 {
+    while e < SymbolBlock::ENTRIES {
         let p = u32_at(m, at) as usize;
         if bad_entry(m, used, index, p) {
             return Judged::Bad {

@@ -4,6 +4,7 @@ use judge::bad_slot;
 use numbers::u16_at;
 use numbers::u32_at;
 use records::Header;
+use records::LINK;
 use slots::IndexBlock;
 use slots::Slot;
 ghost use mathlib.Core.Path.{_≡_};
@@ -42,10 +43,10 @@ fn judge_block_slots(m: &[u8], used: usize, version: u16, index: &[u32], block: 
     requires { ⌜ (block + indexBlockSize ≤ used) × Indexed (now m) used (now index) ⌝ }
     ensures { λ r. ⌜ (r .bad ≡ first (λ j. badSlot (endsMeet indexBlockSize (now (index .entry))) (now (m .entry)) used version (cellIn block slotSize j)) 256) × (r .bad ≡ 256 → r .free ≡ first (freeIn (now (m .entry)) block) 256) ⌝ }
 {
-    let mut at = block + 4;
-    let mut free = 256;
+    let mut at = block + LINK;
+    let mut free = IndexBlock::SLOTS;
     let mut j = 0usize;
-    while j < 256 {
+    while j < IndexBlock::SLOTS {
         let t = Slot::at(m, at);
         if t.len == 0 {
             free = first_free(true, free, j);
@@ -55,7 +56,10 @@ fn judge_block_slots(m: &[u8], used: usize, version: u16, index: &[u32], block: 
         at += Slot::SIZE;
         j += 1;
     }
-    Seen { bad: 256, free }
+    Seen {
+        bad: IndexBlock::SLOTS,
+        free,
+    }
 }
 
 // 7: the live slot at fault of lowest number. Where there is none, the first free slot, 256 times the blocks where none is free.
@@ -65,17 +69,21 @@ pub fn judge_slots(m: &[u8], used: usize, index: &[u32], n: usize) -> Examined
 {
     let version = u16_at(m, Header::VERSION);
     let mut at = u32_at(m, Header::INDEX) as usize;
-    let mut free = 256 * n;
+    let mut free = IndexBlock::SLOTS * n;
     let mut k = 0;
     while k < n {
         let seen = judge_block_slots(m, used, version, index, at);
-        if seen.bad < 256 {
+        if seen.bad < IndexBlock::SLOTS {
             return Examined::Refused {
                 number: 7,
                 place: IndexBlock::new(at).slot(seen.bad) as u32,
             };
         }
-        free = first_free(seen.free < 256, free, 256 * k + seen.free);
+        free = first_free(
+            seen.free < IndexBlock::SLOTS,
+            free,
+            IndexBlock::SLOTS * k + seen.free,
+        );
         at = u32_at(m, at) as usize;
         k += 1;
     }

@@ -14,6 +14,7 @@ use numbers::same;
 use numbers::u16_at;
 use records::Header;
 use records::JournalRecord;
+use records::LINK;
 use slots::IndexBlock;
 use slots::ObjectHeader;
 use slots::Slot;
@@ -158,7 +159,7 @@ fn put_block(part: &mut [u8], t: Slot)
 {
     let size = part.len();
     clear(part, size);
-    t.put(&mut part[4..]);
+    t.put(&mut part[LINK..]);
 }
 
 // The object at the old end, a new block with its slot behind it, and the link that points to the block.
@@ -189,7 +190,7 @@ fn write_added(map: &mut [u8], used: usize, order: &[u32], n: usize, s: usize, o
     ensures { λ r. ⌜ now (map .exit) ≡ addedMap (now (map .entry)) used n (now (o .entry)) ⌝ }
 {
     let t = slot_for(u16_at(map, Header::VERSION), o, used as u32);
-    if s < 256 * n {
+    if s < IndexBlock::SLOTS * n {
         write_in_slot(map, used, o, place_of(order, s), t);
     } else {
         write_in_block(map, used, o, last_link(order, n), t);
@@ -201,7 +202,7 @@ fn new_length(used: usize, n: usize, s: usize, o: &[u8]) -> usize
     requires { ⌜ (used ≤ mapLimit) × (length (now o) ≤ 4294967296) × (n ≤ mapLimit) ⌝ }
     ensures { λ r. ⌜ ((m : List ℕ) → s ≡ freeSlot m n → r ≡ newLength m used n (now (o .entry))) ⌝ }
 {
-    if s < 256 * n {
+    if s < IndexBlock::SLOTS * n {
         return used + o.len();
     }
     used + o.len() + IndexBlock::SIZE

@@ -86,7 +86,7 @@ fn sym_for(
     ensures { λ r. ⌜ r ≡ newSymFor kind (now (m .entry)) used n at ⌝ }
 {
     let s = at as usize;
-    if 256 * n <= s {
+    if IndexBlock::SLOTS * n <= s {
         return NewSym::None;
     }
     let found = read_slot(m, place_of(order, s));

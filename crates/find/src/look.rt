@@ -4,6 +4,7 @@ use judge::bad_slot;
 use numbers::u16_at;
 use numbers::u32_at;
 use records::Header;
+use records::LINK;
 use slots::IndexBlock;
 use slots::Slot;
 use windows::Window;
@@ -93,7 +94,7 @@ fn look_in_block(
             used,
             version,
             index,
-            block + 4 + WORD * Slot::SIZE * q,
+            block + LINK + WORD * Slot::SIZE * q,
             w,
         );
         if x.bad < WORD {
@@ -106,7 +107,10 @@ fn look_in_block(
         count += u64::count_ones(x.bits) as usize;
         q += 1;
     }
-    Looked { bad: 256, count }
+    Looked {
+        bad: IndexBlock::SLOTS,
+        count,
+    }
 }
 
 // The slots of an open map's n index blocks, up to the first at fault: its place, 0 where none is.
@@ -127,7 +131,7 @@ pub fn look_in_slots(
     let mut k = 0;
     while k < n {
         let seen = look_in_block(m, used, version, index, at, k, w, words, count);
-        if seen.bad < 256 {
+        if seen.bad < IndexBlock::SLOTS {
             return Looked {
                 bad: IndexBlock::new(at).slot(seen.bad),
                 count,

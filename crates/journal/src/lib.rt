@@ -44,8 +44,8 @@ pub fn place_of(order: &[u32], s: usize) -> usize
     requires { ⌜ s < 256 * length (now order) ⌝ }
     ensures { λ r. ⌜ ((m : List ℕ) (n : ℕ) → Ordered indexHead m n (now (order .entry)) → s < 256 * n → r ≡ slotAt m s) ⌝ }
 {
-    let b = IndexBlock::new(order[s / 256] as usize);
-    b.slot(s % 256)
+    let b = IndexBlock::new(order[s / IndexBlock::SLOTS] as usize);
+    b.slot(s % IndexBlock::SLOTS)
 }
 
 // Whether slot s exists and is not free.
@@ -54,7 +54,7 @@ fn slot_used(m: &[u8], order: &[u32], n: usize, s: u32) -> bool
     ensures { λ r. ⌜ r ≡ slotUsed (now (m .entry)) n s ⌝ }
 {
     let number = s as usize;
-    if 256 * n <= number {
+    if IndexBlock::SLOTS * n <= number {
         return false;
     }
     let t = Slot::at(m, place_of(order, number));

@@ -89,6 +89,9 @@ pub fn pair_good(version: u16, section: u16) -> bool
     }
 }
 
+// A link of a chain: where the next block starts, in so many bytes.
+pub const LINK: usize = 4;
+
 // A symbol block, by where it starts: a link, then 256 entries.
 pub struct SymbolBlock {
     pub at: usize,
@@ -96,6 +99,8 @@ pub struct SymbolBlock {
 
 impl SymbolBlock {
     pub const SIZE: usize = 1028;
+    // Behind its link it has so many entries.
+    pub const ENTRIES: usize = 256;
     // A table of them goes by pages of so many bytes, and has so many entries, or so many for a shorter map.
     pub const PAGE: usize = 1024;
 

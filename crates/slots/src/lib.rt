@@ -3,6 +3,7 @@ use numbers::put_u16_at;
 use numbers::put_u32_at;
 use numbers::u16_at;
 use numbers::u32_at;
+use records::LINK;
 ghost use mathlib.Core.Path.{_≡_};
 ghost use mathlib.Core.Bool.{cond};
 ghost use Prim.Native.Nat.{_+_, _-_, _*_, _≤_, _<_};
@@ -19,6 +20,8 @@ pub struct IndexBlock {
 
 impl IndexBlock {
     pub const SIZE: usize = 6148;
+    // Behind its link it has so many slots.
+    pub const SLOTS: usize = 256;
     // The largest map has so many, and the largest small one.
     pub const MOST: usize = 2728;
 
@@ -41,7 +44,7 @@ impl IndexBlock {
         requires { ⌜ (self .at ≤ 4294967296) × (j < 256) ⌝ }
         ensures { λ r. ⌜ r ≡ self .at + 4 + slotSize * j ⌝ }
     {
-        self.at + 4 + Slot::SIZE * j
+        self.at + LINK + Slot::SIZE * j
     }
 }
 
