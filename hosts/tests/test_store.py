@@ -952,8 +952,10 @@ class Turns(ChildrenTest):
         for path in begun:
             self.start_until_the_end(self.reads_in_a_loop(path))
         self.wait_until(lambda: all(path.exists() for path in begun))
+        started = time.monotonic()
         with Store(wait=self.LIMIT).edit(*self.wanted) as group:
             group.save(*group.contents)
+        self.assertLess(time.monotonic() - started, 1.0)
 
     def holding(self, kind: int) -> ContextManager[object]:
         """The map held in this way, without waiting for it."""
