@@ -1,4 +1,5 @@
-//! Links libtaffrail.a, which `hosts/build --archive` writes.
+//! Links libtaffrail.a, which `hosts/build --archive` writes, and with the feature `before` also libbefore.a, which
+//! `bench/run --before` makes of an earlier one.
 
 use std::env;
 
@@ -12,4 +13,10 @@ fn main() {
     println!("cargo:rerun-if-changed={folder}/libtaffrail.a");
     println!("cargo:rustc-link-search=native={folder}");
     println!("cargo:rustc-link-lib=static=taffrail");
+    if env::var_os("CARGO_FEATURE_BEFORE").is_some() {
+        let folder = concat!(env!("CARGO_MANIFEST_DIR"), "/../target/before");
+        println!("cargo:rerun-if-changed={folder}/libbefore.a");
+        println!("cargo:rustc-link-search=native={folder}");
+        println!("cargo:rustc-link-lib=static=before");
+    }
 }

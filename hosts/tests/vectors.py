@@ -304,7 +304,7 @@ def backward(bad_first: bool) -> bytes:
 
 
 def searches() -> Iterator[SearchCase]:
-    """T24, T27 and T30 to T36, and the table of coordinates."""
+    """T24, T27 and T30 to T36, and the table of coordinates, seen by point and by side."""
     sevens = [7] * 9
     whole = (0, 0, 10, 10)
     none = (0, 0, 0, 1, sevens)
@@ -328,6 +328,7 @@ def searches() -> Iterator[SearchCase]:
     yield SearchCase("T35", below, (0, 0, 0, 0), sevens, none)
     yield SearchCase("T36", E7, whole, sevens, (0, 0, 0, 0, sevens))
     yield from coordinates(one, none)
+    yield from sides(one, none)
 
 
 def at_raw(raw: int) -> bytes:
@@ -335,20 +336,41 @@ def at_raw(raw: int) -> bytes:
     return put(M1, (92, i32(raw) * 4))
 
 
+COORDINATES = (
+    (25602, 100),
+    (255, 0),
+    (-1, -1),
+    (-256, -1),
+    (-257, -2),
+    (2147483647, 8388607),
+    (-2147483648, -8388608),
+)
+
+
 def coordinates(one: Any, none: Any) -> Iterator[SearchCase]:
-    """The document's table of raw numbers and values, seen through windows."""
-    for raw, value in (
-        (25602, 100),
-        (255, 0),
-        (-1, -1),
-        (-256, -1),
-        (-257, -2),
-        (2147483647, 8388607),
-        (-2147483648, -8388608),
-    ):
+    """The document's table of raw numbers and values, seen through windows of one point."""
+    for raw, value in COORDINATES:
         for near, want in ((value - 1, none), (value, one), (value + 1, none)):
             window = (near, near, near, near)
             yield SearchCase(f"raw {raw}", at_raw(raw), window, [7] * 9, want)
+
+
+def sides(one: Any, none: Any) -> Iterator[SearchCase]:
+    """The same through windows that have one side near, and through points 2 ** 24 away, whose
+    values times 256 are the same in 32 bits."""
+    for raw, value in COORDINATES:
+        for side in range(4):
+            inward = 1 if side < 2 else -1
+            for near, want in ((value - inward, one), (value, one), (value + inward, none)):
+                left, bottom, right, top = (
+                    near if side == this else far
+                    for this, far in enumerate((LOWEST, LOWEST, HIGHEST, HIGHEST))
+                )
+                name, window = f"raw {raw}, side {side}", (left, bottom, right, top)
+                yield SearchCase(name, at_raw(raw), window, [7] * 9, want)
+        for far in (value - 2**24, value + 2**24):
+            window = (far, far, far, far)
+            yield SearchCase(f"raw {raw}, far", at_raw(raw), window, [7] * 9, none)
 
 
 def programs() -> Iterator[ProgramCase]:

@@ -1,5 +1,6 @@
 //! The calls of taffrail.h, of the library and of the baseline, and one way to make either.
 
+#[cfg(not(feature = "before"))]
 use baseline::interface as base;
 
 type Check = unsafe extern "C" fn(*const u8, usize, usize, *mut u32) -> u32;
@@ -13,23 +14,6 @@ type Add = unsafe extern "C" fn(*mut u8, usize, usize, *mut u8, usize, u32, *con
 type Change = unsafe extern "C" fn(*mut u8, usize, usize, *mut u8, usize, u32, u32,
                                    *mut u32, *mut u32, *mut u32, *mut u32) -> u32;
 
-#[rustfmt::skip]
-extern "C" {
-    fn taffrail_check(map: *const u8, map_len: usize, used: usize, place: *mut u32) -> u32;
-    fn taffrail_search(map: *const u8, map_len: usize, used: usize,
-                       left: i32, bottom: i32, right: i32, top: i32, list: *mut u32, list_len: usize,
-                       place: *mut u32, count: *mut u32, blocks: *mut u32) -> u32;
-    fn taffrail_add(map: *mut u8, map_len: usize, used: usize, journal: *mut u8, journal_len: usize,
-                    edit: u32, object: *const u8, object_len: usize,
-                    place: *mut u32, before: *mut u32, slot: *mut u32, length: *mut u32) -> u32;
-    fn taffrail_remove(map: *mut u8, map_len: usize, used: usize, journal: *mut u8, journal_len: usize,
-                       edit: u32, at: u32,
-                       place: *mut u32, before: *mut u32, slot: *mut u32, length: *mut u32) -> u32;
-    fn taffrail_reinstate(map: *mut u8, map_len: usize, used: usize, journal: *mut u8, journal_len: usize,
-                          edit: u32, at: u32,
-                          place: *mut u32, before: *mut u32, slot: *mut u32, length: *mut u32) -> u32;
-}
-
 /// The five calls of one side.
 pub struct Side {
     check: Check,
@@ -39,14 +23,38 @@ pub struct Side {
     reinstate: Change,
 }
 
-pub static LIBRARY: Side = Side {
-    check: taffrail_check,
-    search: taffrail_search,
-    add: taffrail_add,
-    remove: taffrail_remove,
-    reinstate: taffrail_reinstate,
-};
+/// Declares the calls of a library under its names for them, and its side.
+macro_rules! linked {
+    ($side:ident: $check:ident, $search:ident, $add:ident, $remove:ident, $reinstate:ident) => {
+        #[rustfmt::skip]
+        extern "C" {
+            fn $check(map: *const u8, map_len: usize, used: usize, place: *mut u32) -> u32;
+            fn $search(map: *const u8, map_len: usize, used: usize,
+                       left: i32, bottom: i32, right: i32, top: i32, list: *mut u32, list_len: usize,
+                       place: *mut u32, count: *mut u32, blocks: *mut u32) -> u32;
+            fn $add(map: *mut u8, map_len: usize, used: usize, journal: *mut u8, journal_len: usize,
+                    edit: u32, object: *const u8, object_len: usize,
+                    place: *mut u32, before: *mut u32, slot: *mut u32, length: *mut u32) -> u32;
+            fn $remove(map: *mut u8, map_len: usize, used: usize, journal: *mut u8, journal_len: usize,
+                       edit: u32, at: u32,
+                       place: *mut u32, before: *mut u32, slot: *mut u32, length: *mut u32) -> u32;
+            fn $reinstate(map: *mut u8, map_len: usize, used: usize, journal: *mut u8, journal_len: usize,
+                          edit: u32, at: u32,
+                          place: *mut u32, before: *mut u32, slot: *mut u32, length: *mut u32) -> u32;
+        }
 
+        pub static $side: Side =
+            Side { check: $check, search: $search, add: $add, remove: $remove, reinstate: $reinstate };
+    };
+}
+
+linked!(LIBRARY: taffrail_check, taffrail_search, taffrail_add, taffrail_remove, taffrail_reinstate);
+
+// With the feature `before`, an earlier state of the library stands in the baseline's place.
+#[cfg(feature = "before")]
+linked!(BASELINE: before_check, before_search, before_add, before_remove, before_reinstate);
+
+#[cfg(not(feature = "before"))]
 pub static BASELINE: Side = Side {
     check: base::base_check,
     search: base::base_search,

@@ -23,7 +23,7 @@ pub const HALF_WINDOW: &str = "half-covering window, 2,000 blocks";
 /// The row in which each side has a journal of its own.
 const AGAINST_EACH: &str = "remove: numbers chosen against each side, 20 blocks";
 /// What the library and the baseline multiply a number by, to find its place in a table by the high bits.
-const SPREADS: [u32; 2] = [2_654_435_769, 0x9E37_79B1];
+const SPREADS: [u32; 2] = [2_654_435_769, if cfg!(feature = "before") { 2_654_435_769 } else { 0x9E37_79B1 }];
 
 const CHECK: &str = "Check";
 const SEARCH: &str = "Search";
@@ -31,9 +31,18 @@ const EDITS: &str = "Edits";
 pub const GROWS: &str = "Growth of the check, from a cold start";
 const WORST: &str = "Worst maps and journals";
 
-/// The library's answer to one check of a map of so many full blocks.
-pub fn check_once(blocks: usize) -> u32 {
-    LIBRARY.make(&Call::Check, &mut lend(&maps::full(8, blocks, ROOM), Vec::new())).number
+/// The library's answer to one call on a map of so many full blocks: a check, or a search with a
+/// small window.
+pub fn once(call: &str, blocks: usize) -> Option<u32> {
+    let map = maps::full(8, blocks, ROOM);
+    let call = match call {
+        "check" => Call::Check,
+        "search" => Call::Search { window: SMALL },
+        _ => return None,
+    };
+    let mut lent = lend(&map, Vec::new());
+    lent.list = vec![0; map.slots()];
+    Some(LIBRARY.make(&call, &mut lent).number)
 }
 
 pub struct Bench {

@@ -1,11 +1,12 @@
 //! Times the proved library against the baseline and writes what it found.
 //!
 //!     harness FOLDER [--quick]
-//!     harness --once BLOCKS
+//!     harness --once CALL BLOCKS
 //!
 //! Prints a row for each input and writes COST.md and growth.svg to the folder. It ends with 1 if
-//! the two answer differently; no time makes it fail. With --once it makes one check of a map of so
-//! many full blocks, for a program that counts its instructions.
+//! the two answer differently; no time makes it fail. Built with the feature `before` it times the library
+//! against an earlier state of it, and writes no page. With --once it makes one call, check or search,
+//! on a map of so many full blocks, for a program that counts its instructions.
 
 mod calls;
 mod cases;
@@ -23,9 +24,9 @@ const QUICK: Effort = Effort { least_pairs: 11, most_pairs: 500, budget: Duratio
 
 fn main() -> std::io::Result<()> {
     let words: Vec<String> = std::env::args().skip(1).collect();
-    if let [once, blocks] = words.as_slice() {
+    if let [once, call, blocks] = words.as_slice() {
         if once == "--once" {
-            return check_once(blocks);
+            return once_alone(call, blocks);
         }
     }
     let (folder, effort) = match words.as_slice() {
@@ -38,20 +39,24 @@ fn main() -> std::io::Result<()> {
     let mut bench = Bench { effort, rows: Vec::new() };
     report::print_head();
     bench.all();
+    println!("\n{}", report::summary(&bench.rows));
+    if cfg!(feature = "before") {
+        return Ok(());
+    }
     std::fs::create_dir_all(folder)?;
     std::fs::write(format!("{folder}/COST.md"), report::page(&bench))?;
     std::fs::write(format!("{folder}/growth.svg"), chart::growth(&bench.rows))?;
-    println!("\n{}\n\nwritten: {folder}/COST.md, {folder}/growth.svg", report::summary(&bench.rows));
+    println!("\nwritten: {folder}/COST.md, {folder}/growth.svg");
     Ok(())
 }
 
 fn usage() -> ! {
-    eprintln!("usage: harness FOLDER [--quick], or harness --once BLOCKS");
+    eprintln!("usage: harness FOLDER [--quick], or harness --once CALL BLOCKS");
     std::process::exit(2);
 }
 
-fn check_once(blocks: &str) -> std::io::Result<()> {
-    let Ok(blocks) = blocks.parse() else { usage() };
-    println!("{}", cases::check_once(blocks));
+fn once_alone(call: &str, blocks: &str) -> std::io::Result<()> {
+    let Some(number) = blocks.parse().ok().and_then(|blocks| cases::once(call, blocks)) else { usage() };
+    println!("{number}");
     Ok(())
 }

@@ -35,7 +35,8 @@ fn columns(row: &Row) -> [String; 6] {
     ]
 }
 
-const HEADS: [&str; 6] = ["library", "baseline", "ratio", "library", "baseline", "ratio"];
+const OTHER: &str = if cfg!(feature = "before") { "before" } else { "baseline" };
+const HEADS: [&str; 6] = ["library", OTHER, "ratio", "library", OTHER, "ratio"];
 
 pub fn print_head() {
     println!("{:61}{:^27}   {:^27}", "", "median", "least");
