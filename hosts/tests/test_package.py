@@ -13,6 +13,7 @@ from typing import Any, Callable, Tuple
 from unittest import mock
 
 from support_host import MODEL, PACKAGE_FOLDER, object_bytes
+from vectors import COORDINATES
 
 import taffrail
 from taffrail import (
@@ -94,16 +95,7 @@ class TheDocumentsExample(unittest.TestCase):
         self.assertEqual(taffrail.search(map_buffer, 0, 0, 10, 10, used=used), Found((0,), 1))
 
     def test_coordinates(self) -> None:
-        table = [
-            (25602, 100),
-            (255, 0),
-            (-1, -1),
-            (-256, -1),
-            (-257, -2),
-            (2147483647, 8388607),
-            (-2147483648, -8388608),
-        ]
-        for raw, value in table:
+        for raw, value in COORDINATES:
             self.assertEqual(layout.value(raw), value)
 
 
