@@ -14,8 +14,8 @@ use Rattle.chain.specs.declared.Walk.the-variants.{Blocks, Fault}
 use Rattle.chain.specs.Chains.{walked, taken}
 use Rattle.chain.proofs.Chains.{walked-taken}
 use Rattle.accept.specs.declared.Verdict.the-variants.{Accepted}
-use Rattle.accept.specs.declared.Judged.{Judged}
-use Rattle.accept.specs.declared.Judged.the-variants.{Good, Bad}
+use Rattle.accept.specs.declared.JudgedMap.{JudgedMap}
+use Rattle.accept.specs.declared.JudgedMap.the-variants.{Good, Bad}
 use Rattle.judge.specs.Rules.{indexRule, symbolRule, touches, slotAt, entryAt}
 use Rattle.judge.specs.Judging.{versionOf, lengthGood, partGood, badSlot, badEntry}
 use Rattle.accept.proofs.Looking.{cells-good, cells-tell}
@@ -41,11 +41,11 @@ pub record Holds (m : List ℕ) (used n : ℕ) : Type 0 where
 good-not : {k p : ℕ} → Bad k p ≡ Good → ⊥
 good-not e = let z : _≡_ {A = ℕ} 0 1 = cc in omega arith
 
-firstOf-good : (j i : Judged) → firstOf j i ≡ Good → (j ≡ Good) × (i ≡ Good)
+firstOf-good : (j i : JudgedMap) → firstOf j i ≡ Good → (j ≡ Good) × (i ≡ Good)
 firstOf-good Good i e = (refl, e)
 firstOf-good (Bad k p) i e = absurd (good-not e)
 
-cond-good : (b : Bool) (j : Judged) (k p : ℕ) → cond b j (Bad k p) ≡ Good → (b ≡ true) × (j ≡ Good)
+cond-good : (b : Bool) (j : JudgedMap) (k p : ℕ) → cond b j (Bad k p) ≡ Good → (b ≡ true) × (j ≡ Good)
 cond-good true j k p e = (refl, e)
 cond-good false j k p e = absurd (good-not e)
 

@@ -20,7 +20,7 @@ use Rattle.chain.specs.Chains.{Rule, place, block}
 use Rattle.chain.specs.Cells.{cellIn, cellAt}
 use Rattle.chain.proofs.Chains.{Pass, few, block-at, place-more}
 use Rattle.chain.proofs.Cells.{cell-no}
-use Rattle.accept.specs.declared.Judged.the-variants.{Good, Bad}
+use Rattle.accept.specs.declared.JudgedMap.the-variants.{Good, Bad}
 use Rattle.accept.specs.Verdicts.{cellsJudged}
 use Rattle.accept.proofs.Firsts.{first-same, first-after}
 

@@ -5,10 +5,10 @@ use mathlib.Core.List.{List}
 use Rattle.chain.specs.declared.Walk.{Walk}
 use Rattle.chain.specs.declared.Walk.the-variants.{Blocks, Fault}
 use Rattle.chain.specs.Chains.{walked}
-use Rattle.accept.specs.declared.Judged.{Judged}
-use Rattle.accept.specs.declared.Judged.the-variants.{Good, Bad}
-use Rattle.accept.specs.declared.Opened.{Opened}
-use Rattle.accept.specs.declared.Opened.the-variants as opened
+use Rattle.accept.specs.declared.JudgedMap.{JudgedMap}
+use Rattle.accept.specs.declared.JudgedMap.the-variants.{Good, Bad}
+use Rattle.accept.specs.declared.OpenedMap.{OpenedMap}
+use Rattle.accept.specs.declared.OpenedMap.the-variants as opened
 use Rattle.accept.specs.declared.Verdict.the-variants.{Accepted}
 use Rattle.judge.specs.Rules.{indexRule}
 use Rattle.accept.specs.Opens.{orOpened, openedAfter, openedOf, afterOpened, Open, Opens}
@@ -16,7 +16,7 @@ use Rattle.accept.specs.Verdicts.{unless, headerJudged, symbolsJudged, s
 use Rattle.accept.proofs.Verdicts.{unless-tells, refused}
 
 module _ (m : List ℕ) (used : ℕ) where
-  or-after : (j : Judged) (o : Opened) → unless j (afterOpened m used o) ≡ afterOpened m used (orOpened j o)
+  or-after : (j : JudgedMap) (o : OpenedMap) → unless j (afterOpened m used o) ≡ afterOpened m used (orOpened j o)
   or-after Good o = refl
   or-after (Bad k p) o = refl
 
@@ -32,7 +32,7 @@ module _ (m : List ℕ) (used : ℕ) where
       ap (unless (headerJudged m used)) (after-opened w) ∙ or-after (headerJudged m used) (openedAfter m used w)
 
   -- a map that is accepted is open, with its index blocks
-  pub accepted-open : (t : List ℕ) (o : Opened) {n : ℕ} → Opens m used t o → afterOpened m used o ≡ Accepted n → Open m used n t
+  pub accepted-open : (t : List ℕ) (o : OpenedMap) {n : ℕ} → Opens m used t o → afterOpened m used o ≡ Accepted n → Open m used n t
   accepted-open t (opened.Blocks k) {n} h e =
       let g = unless-tells (slotsJudged m used k) e .1 in
       let q : k ≡ n = cc in

@@ -11,8 +11,8 @@ use Rattle.slots.specs.declared.State.the-variants.{Free}
 use Rattle.slots.specs.Slots.{slotOf, stateOf, sameState}
 use Rattle.accept.specs.declared.Verdict.{Verdict}
 use Rattle.accept.specs.declared.Verdict.the-variants.{Accepted, Refused}
-use Rattle.accept.specs.declared.Examined.{Examined}
-use Rattle.accept.specs.declared.Examined.the-variants as examined
+use Rattle.accept.specs.declared.ExaminedMap.{ExaminedMap}
+use Rattle.accept.specs.declared.ExaminedMap.the-variants as examined
 use Rattle.judge.specs.Rules.{slotAt}
 use Rattle.judge.specs.Judging.{noLen}
 use Rattle.accept.specs.Slots.{slotIn, freeSlot, withFree}
@@ -34,7 +34,7 @@ free-most m n = first-law (λ i. sameState Free (stateOf (slotIn m i))) (256 * n
 
 -- ---- a verdict with the first free slot, and without it again
 
-abbrev pub plain : Examined → Verdict
+abbrev pub plain : ExaminedMap → Verdict
 plain (examined.Accepted n f) = Accepted n
 plain (examined.Refused k p) = Refused k p
 
@@ -42,11 +42,11 @@ pub plain-free : (m : List ℕ) (v : Verdict) → plain (withFree m v) ≡ v
 plain-free m (Accepted n) = refl
 plain-free m (Refused k p) = refl
 
-pub verdict-of : (m : List ℕ) (v : Verdict) {e : Examined} → e ≡ withFree m v → plain e ≡ v
+pub verdict-of : (m : List ℕ) (v : Verdict) {e : ExaminedMap} → e ≡ withFree m v → plain e ≡ v
 verdict-of m v f = ap plain f ∙ plain-free m v
 
 -- what an answer with the first free slot tells of the verdict
-pub accepted-free : (m : List ℕ) (v : Verdict) {e : Examined} {n f : ℕ} → e ≡ withFree m v → e ≡ examined.Accepted n f → (v ≡ Accepted n) × (f ≡ freeSlot m n)
+pub accepted-free : (m : List ℕ) (v : Verdict) {e : ExaminedMap} {n f : ℕ} → e ≡ withFree m v → e ≡ examined.Accepted n f → (v ≡ Accepted n) × (f ≡ freeSlot m n)
 accepted-free m (Accepted k) {n} {f} p q =
     let r : k ≡ n = cc in
     let g : f ≡ freeSlot m k = cc in

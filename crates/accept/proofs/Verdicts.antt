@@ -17,8 +17,8 @@ use Rattle.chain.specs.Chains.{Rule, place, block, walked, taken}
 use Rattle.chain.proofs.Chains.{pass-none, block-at, stops-zero, taken-is, walked-blocks, walked-taken, fault-tells}
 use Rattle.accept.specs.declared.Verdict.{Verdict}
 use Rattle.accept.specs.declared.Verdict.the-variants.{Accepted, Refused}
-use Rattle.accept.specs.declared.Judged.{Judged}
-use Rattle.accept.specs.declared.Judged.the-variants.{Good, Bad}
+use Rattle.accept.specs.declared.JudgedMap.{JudgedMap}
+use Rattle.accept.specs.declared.JudgedMap.the-variants.{Good, Bad}
 use Rattle.judge.specs.Rules.{indexRule, symbolRule, touches, slotAt, entryAt}
 use Rattle.judge.specs.Judging.{versionOf, lengthGood, badSlot, badEntry}
 use Rattle.accept.proofs.Looking.{cells-good}
@@ -54,11 +54,11 @@ taken-of r m used (Blocks n) e = sym (walked-taken r m used e)
 taken-of r m used (Fault p n) e = sym (fault-tells r m used e .0)
 
 -- the walk answered w, and the entries of its blocks were judged to be j
-pub symbols-is : (m : List ℕ) (used n : ℕ) {w : Walk} {j : Judged} → walked (symbolRule m n) m used ≡ w → j ≡ entriesJudged m used n (blocksIn w) → symbolsJudged m used n ≡ firstOf j (linkJudged w)
+pub symbols-is : (m : List ℕ) (used n : ℕ) {w : Walk} {j : JudgedMap} → walked (symbolRule m n) m used ≡ w → j ≡ entriesJudged m used n (blocksIn w) → symbolsJudged m used n ≡ firstOf j (linkJudged w)
 unfolding symbolsJudgedOf
 symbols-is m used n {w} e f = rw (e, ← taken-of (symbolRule m n) m used w e, ← f)
 
-pub first-good : (j : Judged) → firstOf j Good ≡ j
+pub first-good : (j : JudgedMap) → firstOf j Good ≡ j
 first-good Good = refl
 first-good (Bad n p) = refl
 
@@ -85,7 +85,7 @@ no-index m used e f =
 pub refused : {number p n : ℕ} → Refused number p ≡ Accepted n → ⊥
 refused e = let z : _≡_ {A = ℕ} 0 1 = cc in omega arith
 
-pub unless-tells : (j : Judged) {v : Verdict} {n : ℕ} → unless j v ≡ Accepted n → (j ≡ Good) × (v ≡ Accepted n)
+pub unless-tells : (j : JudgedMap) {v : Verdict} {n : ℕ} → unless j v ≡ Accepted n → (j ≡ Good) × (v ≡ Accepted n)
 unless-tells Good e = (refl, e)
 unless-tells (Bad k p) e = absurd (refused e)
 

@@ -16,26 +16,26 @@ use Rattle.chain.specs.Chains.{walked}
 use Rattle.chain.specs.Tables.{EndsTable}
 use Rattle.accept.specs.declared.Verdict.{Verdict}
 use Rattle.accept.specs.declared.Verdict.the-variants.{Accepted, Refused}
-use Rattle.accept.specs.declared.Judged.{Judged}
-use Rattle.accept.specs.declared.Judged.the-variants.{Good, Bad}
-use Rattle.accept.specs.declared.Opened.{Opened}
-use Rattle.accept.specs.declared.Opened.the-variants as opened
+use Rattle.accept.specs.declared.JudgedMap.{JudgedMap}
+use Rattle.accept.specs.declared.JudgedMap.the-variants.{Good, Bad}
+use Rattle.accept.specs.declared.OpenedMap.{OpenedMap}
+use Rattle.accept.specs.declared.OpenedMap.the-variants as opened
 use Rattle.judge.specs.Rules.{indexRule}
 use Rattle.judge.specs.Indexed.{Indexed}
 use Rattle.accept.specs.Verdicts.{unless, headerJudged, symbolsJudged, slotsJudged}
 
-abbrev pub orOpened : Judged → Opened → Opened
+abbrev pub orOpened : JudgedMap → OpenedMap → OpenedMap
 orOpened Good o = o
 orOpened (Bad k p) o = opened.Refused k p
 
-unfoldable pub openedAfter : List ℕ → ℕ → Walk → Opened
+unfoldable pub openedAfter : List ℕ → ℕ → Walk → OpenedMap
 openedAfter m used (Blocks n) = orOpened (symbolsJudged m used n) (opened.Blocks n)
 openedAfter m used (Fault p n) = opened.Refused 5 p
 
-unfoldable pub openedOf : List ℕ → ℕ → Opened
+unfoldable pub openedOf : List ℕ → ℕ → OpenedMap
 openedOf m used = orOpened (headerJudged m used) (openedAfter m used (walked (indexRule m) m used))
 
-abbrev pub afterOpened : List ℕ → ℕ → Opened → Verdict
+abbrev pub afterOpened : List ℕ → ℕ → OpenedMap → Verdict
 afterOpened m used (opened.Blocks n) = unless (slotsJudged m used n) (Accepted n)
 afterOpened m used (opened.Refused k p) = Refused k p
 
@@ -45,6 +45,6 @@ pub record Open (m : List ℕ) (used n : ℕ) (t : List ℕ) : Type 0 where
   pub index : walked (indexRule m) m used ≡ Blocks n
   pub table : EndsTable indexBlockSize indexHead indexPage m n t
 
-abbrev pub Opens : List ℕ → ℕ → List ℕ → Opened → Type 0
+abbrev pub Opens : List ℕ → ℕ → List ℕ → OpenedMap → Type 0
 Opens m used t (opened.Blocks n) = Open m used n t
 Opens m used t (opened.Refused k p) = Unit {0}

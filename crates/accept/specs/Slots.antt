@@ -16,8 +16,8 @@ use Rattle.slots.specs.Slots.{slotOf, stateOf, sameState}
 use Rattle.chain.specs.Cells.{cellIn}
 use Rattle.accept.specs.declared.Verdict.{Verdict}
 use Rattle.accept.specs.declared.Verdict.the-variants.{Accepted, Refused}
-use Rattle.accept.specs.declared.Examined.{Examined}
-use Rattle.accept.specs.declared.Examined.the-variants as examined
+use Rattle.accept.specs.declared.ExaminedMap.{ExaminedMap}
+use Rattle.accept.specs.declared.ExaminedMap.the-variants as examined
 use Rattle.judge.specs.Rules.{slotAt}
 use Rattle.judge.specs.Judging.{noLen}
 
@@ -34,6 +34,6 @@ firstFree false free s = free
 abbrev pub freeIn : List ℕ → ℕ → ℕ → Bool
 freeIn m b j = noLen m (cellIn b slotSize j)
 
-abbrev pub withFree : List ℕ → Verdict → Examined
+abbrev pub withFree : List ℕ → Verdict → ExaminedMap
 withFree m (Accepted n) = examined.Accepted n (freeSlot m n)
 withFree m (Refused k p) = examined.Refused k p

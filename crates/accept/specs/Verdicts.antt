@@ -23,8 +23,8 @@ use Rattle.chain.specs.declared.Walk.the-variants.{Blocks, Fault}
 use Rattle.chain.specs.Chains.{walked, taken}
 use Rattle.accept.specs.declared.Verdict.{Verdict}
 use Rattle.accept.specs.declared.Verdict.the-variants.{Accepted, Refused}
-use Rattle.accept.specs.declared.Judged.{Judged}
-use Rattle.accept.specs.declared.Judged.the-variants.{Good, Bad}
+use Rattle.accept.specs.declared.JudgedMap.{JudgedMap}
+use Rattle.accept.specs.declared.JudgedMap.the-variants.{Good, Bad}
 use Rattle.judge.specs.Rules.{Family, narrow, indexRule, symbolRuleOf, touchesOf, slotAtOf, entryAt}
 use Rattle.judge.specs.Judging.{lengthGood, partGood}
 
@@ -36,14 +36,14 @@ abbrev pub placeOf : Verdict → ℕ
 placeOf (Accepted n) = 0
 placeOf (Refused n p) = p
 
-abbrev pub unless : Judged → Verdict → Verdict
+abbrev pub unless : JudgedMap → Verdict → Verdict
 unless Good v = v
 unless (Bad n p) v = Refused n p
 
-unfoldable pub cellsJudged : ℕ → (ℕ → Bool) → (ℕ → ℕ) → ℕ → Judged
+unfoldable pub cellsJudged : ℕ → (ℕ → Bool) → (ℕ → ℕ) → ℕ → JudgedMap
 cellsJudged number bad place n = cond (ltb (first bad n) n) (Bad number (place (first bad n))) Good
 
-unfoldable pub fieldsJudged : Header → ℕ → Judged
+unfoldable pub fieldsJudged : Header → ℕ → JudgedMap
 fieldsJudged h used =
     cond (eqb (h .mark) 3245)
     (cond (pairGood (h .version) (h .section))
@@ -51,38 +51,38 @@ fieldsJudged h used =
     (Bad 3 0))
     (Bad 2 0)
 
-unfoldable pub headerJudged : List ℕ → ℕ → Judged
+unfoldable pub headerJudged : List ℕ → ℕ → JudgedMap
 headerJudged m used = cond (lengthGood m used) (fieldsJudged (headerOf m) used) (Bad 1 0)
 
-abbrev pub linkJudged : Walk → Judged
+abbrev pub linkJudged : Walk → JudgedMap
 linkJudged (Blocks n) = Good
 linkJudged (Fault p n) = Bad 6 p
 
-abbrev pub firstOf : Judged → Judged → Judged
+abbrev pub firstOf : JudgedMap → JudgedMap → JudgedMap
 firstOf Good j = j
 firstOf (Bad n p) j = Bad n p
 
-unfoldable pub entriesJudgedOf : Family → List ℕ → ℕ → ℕ → ℕ → Judged
+unfoldable pub entriesJudgedOf : Family → List ℕ → ℕ → ℕ → ℕ → JudgedMap
 entriesJudgedOf f m used n k = cellsJudged 6 (λ e. f .entryAtFault (touchesOf f m n) m used (entryAt m e)) (entryAt m) (256 * k)
 
-unfoldable pub symbolsJudgedOf : Family → List ℕ → ℕ → ℕ → Judged
+unfoldable pub symbolsJudgedOf : Family → List ℕ → ℕ → ℕ → JudgedMap
 symbolsJudgedOf f m used n =
     firstOf (entriesJudgedOf f m used n (taken (symbolRuleOf f m n) m used)) (linkJudged (walked (symbolRuleOf f m n) m used))
 
-unfoldable pub slotsJudgedOf : Family → List ℕ → ℕ → ℕ → Judged
+unfoldable pub slotsJudgedOf : Family → List ℕ → ℕ → ℕ → JudgedMap
 slotsJudgedOf f m used n = cellsJudged 7 (λ s. f .slotAtFault (touchesOf f m n) m used (slotAtOf f m s)) (slotAtOf f m) (256 * n)
 
 unfoldable pub afterIndexOf : Family → List ℕ → ℕ → Walk → Verdict
 afterIndexOf f m used (Blocks n) = unless (symbolsJudgedOf f m used n) (unless (slotsJudgedOf f m used n) (Accepted n))
 afterIndexOf f m used (Fault p n) = Refused 5 p
 
-abbrev pub entriesJudged : List ℕ → ℕ → ℕ → ℕ → Judged
+abbrev pub entriesJudged : List ℕ → ℕ → ℕ → ℕ → JudgedMap
 entriesJudged m used n k = entriesJudgedOf narrow m used n k
 
-abbrev pub symbolsJudged : List ℕ → ℕ → ℕ → Judged
+abbrev pub symbolsJudged : List ℕ → ℕ → ℕ → JudgedMap
 symbolsJudged m used n = symbolsJudgedOf narrow m used n
 
-abbrev pub slotsJudged : List ℕ → ℕ → ℕ → Judged
+abbrev pub slotsJudged : List ℕ → ℕ → ℕ → JudgedMap
 slotsJudged m used n = slotsJudgedOf narrow m used n
 
 abbrev pub afterIndex : List ℕ → ℕ → Walk → Verdict

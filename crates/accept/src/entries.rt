@@ -1,5 +1,5 @@
 // 6: the symbol blocks and their entries.
-use super::Judged;
+use super::JudgedMap;
 use chain::Walk;
 use chain::walk_chain;
 use judge::bad_entry;
@@ -23,7 +23,7 @@ ghost use Rattle.judge.specs.Judging.{badEntry};
 ghost use Rattle.accept.specs.Verdicts.{cellsJudged, entriesJudged, symbolsJudged};
 
 // 6, of one symbol block: the first entry at fault.
-fn judge_block_entries(m: &[u8], used: usize, index: &[u32], block: usize) -> Judged
+fn judge_block_entries(m: &[u8], used: usize, index: &[u32], block: usize) -> JudgedMap
     requires { ⌜ (block + symbolBlockSize ≤ used) × Indexed (now m) used (now index) ⌝ }
     ensures { λ r. ⌜ r ≡ cellsJudged 6 (λ e. badEntry (endsMeet indexBlockSize (now (index .entry))) (now (m .entry)) used (cellIn block entrySize e)) (cellIn block entrySize) 256 ⌝ }
 {
@@ -32,7 +32,7 @@ fn judge_block_entries(m: &[u8], used: usize, index: &[u32], block: usize) -> Ju
     while e < SymbolBlock::ENTRIES {
         let p = u32_at(m, at) as usize;
         if bad_entry(m, used, index, p) {
-            return Judged::Bad {
+            return JudgedMap::Bad {
                 number: 6,
                 place: at as u32,
             };
@@ -40,11 +40,11 @@ fn judge_block_entries(m: &[u8], used: usize, index: &[u32], block: usize) -> Ju
         at += SymbolBlock::ENTRY;
         e += 1;
     }
-    Judged::Good
+    JudgedMap::Good
 }
 
 // 6, of the first k symbol blocks: the first entry at fault.
-fn judge_entries(m: &[u8], used: usize, index: &[u32], n: usize, k: usize) -> Judged
+fn judge_entries(m: &[u8], used: usize, index: &[u32], n: usize, k: usize) -> JudgedMap
     requires { ⌜ (headerSize ≤ used) × Indexed (now m) used (now index) × EndsTable indexBlockSize indexHead indexPage (now m) n (now index) × (k ≡ taken (symbolRule (now m) n) (now m) used) ⌝ }
     ensures { λ r. ⌜ r ≡ entriesJudged (now (m .entry)) used n k ⌝ }
 {
@@ -54,18 +54,18 @@ fn judge_entries(m: &[u8], used: usize, index: &[u32], n: usize, k: usize) -> Ju
         at = u32_at(m, at) as usize;
         let j = judge_block_entries(m, used, index, at);
         match j {
-            Judged::Bad { number, place } => {
-                return Judged::Bad { number, place };
+            JudgedMap::Bad { number, place } => {
+                return JudgedMap::Bad { number, place };
             }
-            Judged::Good => {}
+            JudgedMap::Good => {}
         }
         i += 1;
     }
-    Judged::Good
+    JudgedMap::Good
 }
 
 // 6: the symbol blocks and their entries. A table for the blocks is lent, empty before.
-fn judge_symbol_blocks(m: &[u8], used: usize, index: &[u32], n: usize, t: &mut [u32]) -> Judged
+fn judge_symbol_blocks(m: &[u8], used: usize, index: &[u32], n: usize, t: &mut [u32]) -> JudgedMap
     requires { ⌜ (headerSize ≤ used) × Indexed (now m) used (now index) × EndsTable indexBlockSize indexHead indexPage (now m) n (now index) × (used + symbolPage ≤ length (now t) * symbolPage) × Empty (now t) ⌝ }
     ensures { λ r. ⌜ r ≡ symbolsJudged (now (m .entry)) used n ⌝ }
 {
@@ -75,18 +75,18 @@ fn judge_symbol_blocks(m: &[u8], used: usize, index: &[u32], n: usize, t: &mut [
         Walk::Fault { place, taken } => {
             let j = judge_entries(m, used, index, n, taken);
             match j {
-                Judged::Good => Judged::Bad {
+                JudgedMap::Good => JudgedMap::Bad {
                     number: 6,
                     place: place as u32,
                 },
-                Judged::Bad { number, place } => Judged::Bad { number, place },
+                JudgedMap::Bad { number, place } => JudgedMap::Bad { number, place },
             }
         }
     }
 }
 
 // 6, of a small map. Each size of the table stands in a function of its own: so the compiler gives them the same room.
-fn small_symbols(m: &[u8], used: usize, index: &[u32], n: usize) -> Judged
+fn small_symbols(m: &[u8], used: usize, index: &[u32], n: usize) -> JudgedMap
     requires { ⌜ (headerSize ≤ used) × (used ≤ smallMap) × Indexed (now m) used (now index) × EndsTable indexBlockSize indexHead indexPage (now m) n (now index) ⌝ }
     ensures { λ r. ⌜ r ≡ symbolsJudged (now (m .entry)) used n ⌝ }
 {
@@ -95,7 +95,7 @@ fn small_symbols(m: &[u8], used: usize, index: &[u32], n: usize) -> Judged
 }
 
 // 6, of a map of middle size.
-fn middle_symbols(m: &[u8], used: usize, index: &[u32], n: usize) -> Judged
+fn middle_symbols(m: &[u8], used: usize, index: &[u32], n: usize) -> JudgedMap
     requires { ⌜ (headerSize ≤ used) × (used ≤ middleMap) × Indexed (now m) used (now index) × EndsTable indexBlockSize indexHead indexPage (now m) n (now index) ⌝ }
     ensures { λ r. ⌜ r ≡ symbolsJudged (now (m .entry)) used n ⌝ }
 {
@@ -104,7 +104,7 @@ fn middle_symbols(m: &[u8], used: usize, index: &[u32], n: usize) -> Judged
 }
 
 // 6, of any map.
-fn large_symbols(m: &[u8], used: usize, index: &[u32], n: usize) -> Judged
+fn large_symbols(m: &[u8], used: usize, index: &[u32], n: usize) -> JudgedMap
     requires { ⌜ (headerSize ≤ used) × Indexed (now m) used (now index) × EndsTable indexBlockSize indexHead indexPage (now m) n (now index) ⌝ }
     ensures { λ r. ⌜ r ≡ symbolsJudged (now (m .entry)) used n ⌝ }
 {
@@ -113,12 +113,12 @@ fn large_symbols(m: &[u8], used: usize, index: &[u32], n: usize) -> Judged
 }
 
 // 6, with a table as large as the map needs: none where there are no symbol blocks.
-pub fn judge_symbols(m: &[u8], used: usize, index: &[u32], n: usize) -> Judged
+pub fn judge_symbols(m: &[u8], used: usize, index: &[u32], n: usize) -> JudgedMap
     requires { ⌜ (headerSize ≤ used) × Indexed (now m) used (now index) × EndsTable indexBlockSize indexHead indexPage (now m) n (now index) ⌝ }
     ensures { λ r. ⌜ r ≡ symbolsJudged (now (m .entry)) used n ⌝ }
 {
     if u32_at(m, Header::SYMBOLS) == 0 {
-        return Judged::Good;
+        return JudgedMap::Good;
     }
     if used <= Header::SMALL {
         return small_symbols(m, used, index, n);

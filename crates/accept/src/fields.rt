@@ -1,5 +1,5 @@
 // 1 to 4: the length, the mark, the version pair, setup and info.
-use super::Judged;
+use super::JudgedMap;
 use judge::part_good;
 use records::Header;
 use records::pair_good;
@@ -9,57 +9,57 @@ ghost use Rattle.records.specs.Sizes.{mapLimit};
 ghost use Rattle.accept.specs.Verdicts.{fieldsJudged, headerJudged};
 
 // 2: the mark. 3: the version pair. 4: setup, then info.
-fn judge_fields(h: Header, used: usize) -> Judged
+fn judge_fields(h: Header, used: usize) -> JudgedMap
     requires { ⌜ used ≤ mapLimit ⌝ }
     ensures { λ r. ⌜ r ≡ fieldsJudged h used ⌝ }
 {
     if h.mark != Header::MARK {
-        return Judged::Bad {
+        return JudgedMap::Bad {
             number: 2,
             place: 0,
         };
     }
     if !pair_good(h.version, h.section) {
-        return Judged::Bad {
+        return JudgedMap::Bad {
             number: 3,
             place: 0,
         };
     }
     let setup = h.setup;
     if !part_good(used, setup) {
-        return Judged::Bad {
+        return JudgedMap::Bad {
             number: 4,
             place: Header::SETUP as u32,
         };
     }
     let info = h.info;
     if !part_good(used, info) {
-        return Judged::Bad {
+        return JudgedMap::Bad {
             number: 4,
             place: Header::INFO as u32,
         };
     }
-    Judged::Good
+    JudgedMap::Good
 }
 
 // 1: the length; then the header's fields.
-pub fn judge_header(m: &[u8], used: usize) -> Judged
+pub fn judge_header(m: &[u8], used: usize) -> JudgedMap
     ensures { λ r. ⌜ r ≡ headerJudged (now (m .entry)) used ⌝ }
 {
     if used < Header::SIZE {
-        return Judged::Bad {
+        return JudgedMap::Bad {
             number: 1,
             place: 0,
         };
     }
     if Header::LIMIT < used {
-        return Judged::Bad {
+        return JudgedMap::Bad {
             number: 1,
             place: 0,
         };
     }
     if m.len() < used {
-        return Judged::Bad {
+        return JudgedMap::Bad {
             number: 1,
             place: 0,
         };

@@ -22,7 +22,7 @@ ghost use Rattle.chain.specs.Chains.{walked, taken};
 ghost use Rattle.chain.specs.Tables.{Empty, Placed, Filled, Table, EndsTable};
 ghost use Rattle.chain.specs.declared.Walk.the-variants.{Blocks};
 ghost use Rattle.accept.specs.declared.Verdict.the-variants.{Accepted};
-ghost use Rattle.accept.specs.declared.Examined.the-variants as examined;
+ghost use Rattle.accept.specs.declared.ExaminedMap.the-variants as examined;
 ghost use Rattle.accept.specs.Slots.{withFree};
 ghost use Rattle.judge.specs.Rules.{indexRule};
 ghost use Rattle.accept.specs.Opens.{openedAfter, openedOf, afterOpened, Opens};
@@ -35,19 +35,19 @@ pub enum Verdict {
 }
 
 // What the examination for an edit answers: accepted, with the number of index blocks and the first free slot, 256 times the blocks where none is free.
-pub enum Examined {
+pub enum ExaminedMap {
     Accepted { blocks: usize, free: usize },
     Refused { number: u32, place: u32 },
 }
 
 // What 1 to 6 answer: the number of index blocks, or a refusal.
-pub enum Opened {
+pub enum OpenedMap {
     Blocks(usize),
     Refused { number: u32, place: u32 },
 }
 
 // What was judged: good, or at fault with document 01's number and place.
-pub enum Judged {
+pub enum JudgedMap {
     Good,
     Bad { number: u32, place: u32 },
 }
@@ -73,7 +73,7 @@ pub fn place(v: Verdict) -> u32
 }
 
 // 6, of a map whose index blocks are good. Their table is filled first.
-fn open_symbols(m: &[u8], used: usize, index: &mut [u32], n: usize) -> Opened
+fn open_symbols(m: &[u8], used: usize, index: &mut [u32], n: usize) -> OpenedMap
     requires { ⌜ (headerSize ≤ used) × (used ≤ mapLimit) × (used ≤ length (now m)) × (used + indexPage ≤ length (now index) * indexPage) × (walked (indexRule (now m)) (now m) used ≡ Blocks n) × Placed indexPage (now index) × Table indexHead indexPage (now m) n (now index) ⌝ }
     ensures { λ r. ⌜ (r ≡ openedAfter (now (m .entry)) used (Blocks n)) × Opens (now (m .entry)) used (now (index .exit)) r ⌝ }
 {
@@ -84,13 +84,13 @@ fn open_symbols(m: &[u8], used: usize, index: &mut [u32], n: usize) -> Opened
     );
     let symbols = judge_symbols(m, used, index, n);
     match symbols {
-        Judged::Bad { number, place } => Opened::Refused { number, place },
-        Judged::Good => Opened::Blocks(n),
+        JudgedMap::Bad { number, place } => OpenedMap::Refused { number, place },
+        JudgedMap::Good => OpenedMap::Blocks(n),
     }
 }
 
 // 5, then 6.
-fn open_index(m: &[u8], used: usize, index: &mut [u32]) -> Opened
+fn open_index(m: &[u8], used: usize, index: &mut [u32]) -> OpenedMap
     requires { ⌜ (headerSize ≤ used) × (used ≤ mapLimit) × (used ≤ length (now m)) × (used + indexPage ≤ length (now index) * indexPage) × Empty (now index) ⌝ }
     ensures { λ r. ⌜ (r ≡ openedAfter (now (m .entry)) used (walked (indexRule (now (m .entry))) (now (m .entry)) used)) × Opens (now (m .entry)) used (now (index .exit)) r ⌝ }
 {
@@ -98,7 +98,7 @@ fn open_index(m: &[u8], used: usize, index: &mut [u32]) -> Opened
     let w = walk_chain(m, used, index_kind(Header::of(m)), &none, index);
     match w {
         Walk::Blocks(n) => open_symbols(m, used, index, n),
-        Walk::Fault { place, taken: _ } => Opened::Refused {
+        Walk::Fault { place, taken: _ } => OpenedMap::Refused {
             number: 5,
             place: place as u32,
         },
@@ -106,30 +106,30 @@ fn open_index(m: &[u8], used: usize, index: &mut [u32]) -> Opened
 }
 
 // 1 to 6, with a lent table, empty before, that has the index blocks, filled, afterwards where they are good. What is left of the check is 7.
-pub fn open_map(m: &[u8], used: usize, index: &mut [u32]) -> Opened
+pub fn open_map(m: &[u8], used: usize, index: &mut [u32]) -> OpenedMap
     requires { ⌜ (used ≤ mapLimit → used + indexPage ≤ length (now index) * indexPage) × Empty (now index) ⌝ }
     ensures { λ r. ⌜ (r ≡ openedOf (now (m .entry)) used) × Opens (now (m .entry)) used (now (index .exit)) r ⌝ }
 {
     let j = judge_header(m, used);
     match j {
-        Judged::Bad { number, place } => Opened::Refused { number, place },
-        Judged::Good => open_index(m, used, index),
+        JudgedMap::Bad { number, place } => OpenedMap::Refused { number, place },
+        JudgedMap::Good => open_index(m, used, index),
     }
 }
 
 // 7, of a map that was opened. It stands apart from the opening, whose tables are then gone.
-fn examine_opened(m: &[u8], used: usize, index: &[u32], o: Opened) -> Examined
+fn examine_opened(m: &[u8], used: usize, index: &[u32], o: OpenedMap) -> ExaminedMap
     requires { ⌜ Opens (now m) used (now index) o ⌝ }
     ensures { λ r. ⌜ r ≡ withFree (now (m .entry)) (afterOpened (now (m .entry)) used o) ⌝ }
 {
     match o {
-        Opened::Refused { number, place } => Examined::Refused { number, place },
-        Opened::Blocks(n) => judge_slots(m, used, index, n),
+        OpenedMap::Refused { number, place } => ExaminedMap::Refused { number, place },
+        OpenedMap::Blocks(n) => judge_slots(m, used, index, n),
     }
 }
 
 // The check, with a lent table, empty before, that has the index blocks, filled, afterwards where the map is accepted.
-pub fn examine(m: &[u8], used: usize, index: &mut [u32]) -> Examined
+pub fn examine(m: &[u8], used: usize, index: &mut [u32]) -> ExaminedMap
     requires { ⌜ (used ≤ mapLimit → used + indexPage ≤ length (now index) * indexPage) × Empty (now index) ⌝ }
     ensures { λ r. ⌜ (r ≡ withFree (now (m .entry)) (verdict (now (m .entry)) used)) × ((n free : ℕ) → r ≡ examined.Accepted n free → Filled indexBlockSize indexPage used (now (index .exit)) × EndsTable indexBlockSize indexHead indexPage (now (m .entry)) n (now (index .exit))) ⌝ }
 {
@@ -145,8 +145,8 @@ fn judge_with(m: &[u8], used: usize, index: &mut [u32]) -> Verdict
     let o = open_index(m, used, index);
     let e = examine_opened(m, used, index, o);
     match e {
-        Examined::Accepted { blocks, free: _ } => Verdict::Accepted { blocks },
-        Examined::Refused { number, place } => Verdict::Refused { number, place },
+        ExaminedMap::Accepted { blocks, free: _ } => Verdict::Accepted { blocks },
+        ExaminedMap::Refused { number, place } => Verdict::Refused { number, place },
     }
 }
 
@@ -174,7 +174,7 @@ pub fn check(m: &[u8], used: usize) -> Verdict
 {
     let j = judge_header(m, used);
     match j {
-        Judged::Bad { number, place } => Verdict::Refused { number, place },
-        Judged::Good => judge_chains(m, used),
+        JudgedMap::Bad { number, place } => Verdict::Refused { number, place },
+        JudgedMap::Good => judge_chains(m, used),
     }
 }

@@ -1,5 +1,5 @@
 // 7: the live slots; and the first free one.
-use super::Examined;
+use super::ExaminedMap;
 use judge::bad_slot;
 use numbers::u16_at;
 use numbers::u32_at;
@@ -63,7 +63,7 @@ fn judge_block_slots(m: &[u8], used: usize, version: u16, index: &[u32], block: 
 }
 
 // 7: the live slot at fault of lowest number. Where there is none, the first free slot, 256 times the blocks where none is free.
-pub fn judge_slots(m: &[u8], used: usize, index: &[u32], n: usize) -> Examined
+pub fn judge_slots(m: &[u8], used: usize, index: &[u32], n: usize) -> ExaminedMap
     requires { ⌜ Open (now m) used n (now index) ⌝ }
     ensures { λ r. ⌜ r ≡ withFree (now (m .entry)) (unless (slotsJudged (now (m .entry)) used n) (Accepted n)) ⌝ }
 {
@@ -74,7 +74,7 @@ pub fn judge_slots(m: &[u8], used: usize, index: &[u32], n: usize) -> Examined
     while k < n {
         let seen = judge_block_slots(m, used, version, index, at);
         if seen.bad < IndexBlock::SLOTS {
-            return Examined::Refused {
+            return ExaminedMap::Refused {
                 number: 7,
                 place: IndexBlock::new(at).slot(seen.bad) as u32,
             };
@@ -87,5 +87,5 @@ pub fn judge_slots(m: &[u8], used: usize, index: &[u32], n: usize) -> Examined
         at = u32_at(m, at) as usize;
         k += 1;
     }
-    Examined::Accepted { blocks: n, free }
+    ExaminedMap::Accepted { blocks: n, free }
 }

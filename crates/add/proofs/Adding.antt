@@ -22,11 +22,11 @@ use Rattle.slots.proofs.Slots.{length-slotBytes}
 use Rattle.chain.proofs.Chains.{few}
 use Rattle.judge.specs.Judging.{versionOf}
 use Rattle.judge.proofs.Telling.{and-true}
-use Rattle.journal.specs.declared.Look.the-variants.{Held, New}
+use Rattle.journal.specs.declared.JournalLook.the-variants.{Held, New}
 use Rattle.journal.specs.Journals.{recordIn, slotUsed, holder, isFull, appended, looked}
 use Rattle.journal.proofs.Journals.{good-tells, well-formed-tells, held-tells, looked-held}
-use Rattle.edit.specs.declared.Answer.the-variants.{Done, Refused}
-use Rattle.edit.specs.declared.Start.the-variants as starts
+use Rattle.edit.specs.declared.EditAnswer.the-variants.{Done, Refused}
+use Rattle.edit.specs.declared.EditStart.the-variants as starts
 use Rattle.accept.specs.Slots.{slotIn, freeSlot}
 use Rattle.add.specs.Objects.{pairLimit, offeredGood, blockFor, isObject}
 use Rattle.edit.specs.Edits.{saying, startOf}

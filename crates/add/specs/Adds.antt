@@ -20,7 +20,7 @@ use Rattle.chain.specs.Chains.{place}
 use Rattle.judge.specs.Rules.{slotAt}
 use Rattle.judge.specs.Judging.{versionOf}
 use Rattle.journal.specs.Journals.{isFull, appended}
-use Rattle.edit.specs.declared.Answer.the-variants.{Done, Before, Refused}
+use Rattle.edit.specs.declared.EditAnswer.the-variants.{Done, Before, Refused}
 use Rattle.accept.specs.Slots.{slotIn, freeSlot}
 use Rattle.add.specs.Objects.{offeredGood, slotFor, blockFor, isObject}
 use Rattle.edit.specs.Edits.{Outcome, saying, begun}

@@ -1,7 +1,7 @@
 // Add: an object at the old end, its slot in the first free one or in a new block, and a record.
 use accept::examine;
-use edit::Answer;
-use edit::Start;
+use edit::EditAnswer;
+use edit::EditStart;
 use edit::begin;
 use edit::refused;
 use journal::append;
@@ -39,7 +39,7 @@ ghost use Rattle.judge.specs.Judging.{versionOf};
 ghost use Rattle.accept.specs.Verdicts.{verdict};
 ghost use Rattle.accept.specs.declared.Verdict.the-variants.{Accepted};
 ghost use Rattle.journal.specs.Journals.{inUse};
-ghost use Rattle.edit.specs.declared.Answer.the-variants.{Refused};
+ghost use Rattle.edit.specs.declared.EditAnswer.the-variants.{Refused};
 ghost use Rattle.accept.specs.Slots.{freeSlot};
 ghost use Rattle.add.specs.Objects.{pairLimit, offeredGood, slotFor, blockFor, isObject};
 ghost use Rattle.edit.specs.Edits.{Roomy};
@@ -127,7 +127,7 @@ fn repeat_add(
     o: &[u8],
     kind: u32,
     slot: u32,
-) -> Answer
+) -> EditAnswer
     requires { ⌜ (verdict (now m) used ≡ Accepted n) × Ordered indexHead (now m) n (now order) × (n ≤ length (now order)) × (slot < 256 * n) ⌝ }
     ensures { λ r. ⌜ ((j : List ℕ) → r ≡ repeatAdd (now (m .entry)) used j (now (o .entry)) kind slot .answer) ⌝ }
 {
@@ -137,7 +137,7 @@ fn repeat_add(
     if !is_object(m, used, place_of(order, slot as usize), o) {
         return refused(14);
     }
-    Answer::Before {
+    EditAnswer::Before {
         slot,
         length: used as u32,
     }
@@ -219,7 +219,7 @@ fn add_new(
     n: usize,
     records: usize,
     s: usize,
-) -> Answer
+) -> EditAnswer
     requires { ⌜ (verdict (now map) used ≡ Accepted n) × Ordered indexHead (now map) n (now order) × (n ≤ length (now order)) × (records ≡ inUse (now journal)) × (s ≡ freeSlot (now map) n) ⌝ }
     ensures answers { λ r. ⌜ r ≡ freshAdd (now (map .entry)) used (now (journal .entry)) edit (now (o .entry)) n .answer ⌝ }
     ensures maps { λ r. ⌜ now (map .exit) ≡ freshAdd (now (map .entry)) used (now (journal .entry)) edit (now (o .entry)) n .map ⌝ }
@@ -245,7 +245,7 @@ fn add_new(
         records,
         JournalRecord::new(edit, JournalRecord::ADD, s as u32),
     );
-    Answer::Done {
+    EditAnswer::Done {
         slot: s as u32,
         length: length as u32,
     }
@@ -260,7 +260,7 @@ fn add_with(
     o: &[u8],
     index: &mut [u32],
     order: &mut [u32],
-) -> Answer
+) -> EditAnswer
     requires { ⌜ (used ≤ mapLimit → Roomy used (now index) (now order)) × Empty (now index) ⌝ }
     ensures answers { λ r. ⌜ r ≡ added (now (map .entry)) used (now (journal .entry)) edit (now (o .entry)) .answer ⌝ }
     ensures maps { λ r. ⌜ now (map .exit) ≡ added (now (map .entry)) used (now (journal .entry)) edit (now (o .entry)) .map ⌝ }
@@ -269,9 +269,17 @@ fn add_with(
     let v = examine(map, used, index);
     let start = begin(map, used, journal, edit, v, order);
     match start {
-        Start::Refused { number, place } => Answer::Refused { number, place },
-        Start::Held { blocks, kind, slot } => repeat_add(map, used, order, blocks, o, kind, slot),
-        Start::New {
+        EditStart::Refused { number, place } => EditAnswer::Refused { number, place },
+        EditStart::Held { blocks, kind, slot } => repeat_add(
+            map,
+            used,
+            order,
+            blocks,
+            o,
+            kind,
+            slot,
+        ),
+        EditStart::New {
             blocks,
             records,
             free,
@@ -281,7 +289,7 @@ fn add_with(
 
 // Add: the object is stored at the old end and takes the first free slot, or one in a new block. Any buffer, any `used`, any journal, any edit number, any
 // bytes as object. The tables are as large as the map needs.
-pub fn add(map: &mut [u8], used: usize, journal: &mut [u8], edit: u32, o: &[u8]) -> Answer
+pub fn add(map: &mut [u8], used: usize, journal: &mut [u8], edit: u32, o: &[u8]) -> EditAnswer
     ensures answers { λ r. ⌜ r ≡ added (now (map .entry)) used (now (journal .entry)) edit (now (o .entry)) .answer ⌝ }
     ensures maps { λ r. ⌜ now (map .exit) ≡ added (now (map .entry)) used (now (journal .entry)) edit (now (o .entry)) .map ⌝ }
     ensures journals { λ r. ⌜ now (journal .exit) ≡ added (now (map .entry)) used (now (journal .entry)) edit (now (o .entry)) .journal ⌝ }

@@ -24,8 +24,8 @@ use Rattle.judge.proofs.Judging.{bytes-least, same-touch}
 use Rattle.judge.proofs.Telling.{and-true, slot-tells}
 use Rattle.journal.specs.Journals.{isFull, appended}
 use Rattle.journal.proofs.Below.{zero-one}
-use Rattle.edit.specs.declared.Answer.the-variants.{Done, Refused}
-use Rattle.edit.specs.declared.Start.the-variants as starts
+use Rattle.edit.specs.declared.EditAnswer.the-variants.{Done, Refused}
+use Rattle.edit.specs.declared.EditStart.the-variants as starts
 use Rattle.change.specs.declared.NewSym.the-variants.{Write, None}
 use Rattle.accept.specs.Slots.{slotIn}
 use Rattle.change.specs.Slots.{hasState, resym, withSym, objectSym, isAccepted, canReinstate, allowedFor, symFor}

@@ -8,7 +8,7 @@ use mathlib.Core.List.{List}
 use lib.Dec.{eqb}
 use Rattle.records.specs.Journals.{recordFor}
 use Rattle.journal.specs.Journals.{isFull, appended}
-use Rattle.edit.specs.declared.Answer.the-variants.{Done, Before, Refused}
+use Rattle.edit.specs.declared.EditAnswer.the-variants.{Done, Before, Refused}
 use Rattle.change.specs.Slots.{withSym, allowedFor, symFor}
 use Rattle.edit.specs.Edits.{Outcome, saying, begun}
 

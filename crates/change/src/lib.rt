@@ -1,7 +1,7 @@
 // Remove and reinstate: the Sym of one slot, and a record.
 use accept::examine;
-use edit::Answer;
-use edit::Start;
+use edit::EditAnswer;
+use edit::EditStart;
 use edit::begin;
 use edit::refused;
 use journal::append;
@@ -31,7 +31,7 @@ ghost use Rattle.judge.specs.Rules.{slotAt};
 ghost use Rattle.accept.specs.Verdicts.{verdict};
 ghost use Rattle.accept.specs.declared.Verdict.the-variants.{Accepted};
 ghost use Rattle.journal.specs.Journals.{inUse};
-ghost use Rattle.edit.specs.declared.Answer.the-variants.{Refused};
+ghost use Rattle.edit.specs.declared.EditAnswer.the-variants.{Refused};
 ghost use Rattle.edit.specs.Edits.{Roomy, Known};
 ghost use Rattle.change.specs.Changes.{repeatChange, freshChange, changed, removed, reinstated};
 ghost use Rattle.change.specs.NewSyms.{symToReinstate, newSymFor};
@@ -112,7 +112,7 @@ fn sym_for(
 }
 
 // A removal or reinstatement whose number is held.
-fn repeat_change(used: usize, kind: u32, at: u32, held: u32, slot: u32) -> Answer
+fn repeat_change(used: usize, kind: u32, at: u32, held: u32, slot: u32) -> EditAnswer
     requires { ⌜ used ≤ mapLimit ⌝ }
     ensures { λ r. ⌜ ((m j : List ℕ) → r ≡ repeatChange m used j kind at held slot .answer) ⌝ }
 {
@@ -122,7 +122,7 @@ fn repeat_change(used: usize, kind: u32, at: u32, held: u32, slot: u32) -> Answe
     if slot != at {
         return refused(14);
     }
-    Answer::Before {
+    EditAnswer::Before {
         slot: at,
         length: used as u32,
     }
@@ -147,7 +147,7 @@ fn change_slot(
     place: usize,
     records: usize,
     sym: u16,
-) -> Answer
+) -> EditAnswer
     requires { ⌜ (used ≤ mapLimit) × (place ≡ slotAt (now map) at) × (place + slotSize ≤ length (now map)) × (records ≡ inUse (now journal)) ⌝ }
     ensures answers { λ r. ⌜ r ≡ freshChange (now (map .entry)) used (now (journal .entry)) edit kind at true sym .answer ⌝ }
     ensures maps { λ r. ⌜ now (map .exit) ≡ freshChange (now (map .entry)) used (now (journal .entry)) edit kind at true sym .map ⌝ }
@@ -158,7 +158,7 @@ fn change_slot(
     }
     put_sym(map, place, sym);
     append(journal, records, JournalRecord::new(edit, kind, at));
-    Answer::Done {
+    EditAnswer::Done {
         slot: at,
         length: used as u32,
     }
@@ -174,7 +174,7 @@ fn change_with(
     at: u32,
     index: &mut [u32],
     order: &mut [u32],
-) -> Answer
+) -> EditAnswer
     requires { ⌜ (used ≤ mapLimit → Roomy used (now index) (now order)) × Empty (now index) ⌝ }
     ensures answers { λ r. ⌜ r ≡ changed (now (map .entry)) used (now (journal .entry)) edit kind at .answer ⌝ }
     ensures maps { λ r. ⌜ now (map .exit) ≡ changed (now (map .entry)) used (now (journal .entry)) edit kind at .map ⌝ }
@@ -183,13 +183,13 @@ fn change_with(
     let v = examine(map, used, index);
     let start = begin(map, used, journal, edit, v, order);
     match start {
-        Start::Refused { number, place } => Answer::Refused { number, place },
-        Start::Held {
+        EditStart::Refused { number, place } => EditAnswer::Refused { number, place },
+        EditStart::Held {
             blocks: _,
             kind: held,
             slot,
         } => repeat_change(used, kind, at, held, slot),
-        Start::New {
+        EditStart::New {
             blocks,
             records,
             free: _,
@@ -207,7 +207,14 @@ fn change_with(
 }
 
 // An edit of kind 2 or 3, with tables as large as the map needs.
-fn change(map: &mut [u8], used: usize, journal: &mut [u8], edit: u32, kind: u32, at: u32) -> Answer
+fn change(
+    map: &mut [u8],
+    used: usize,
+    journal: &mut [u8],
+    edit: u32,
+    kind: u32,
+    at: u32,
+) -> EditAnswer
     ensures answers { λ r. ⌜ r ≡ changed (now (map .entry)) used (now (journal .entry)) edit kind at .answer ⌝ }
     ensures maps { λ r. ⌜ now (map .exit) ≡ changed (now (map .entry)) used (now (journal .entry)) edit kind at .map ⌝ }
     ensures journals { λ r. ⌜ now (journal .exit) ≡ changed (now (map .entry)) used (now (journal .entry)) edit kind at .journal ⌝ }
@@ -223,7 +230,7 @@ fn change(map: &mut [u8], used: usize, journal: &mut [u8], edit: u32, kind: u32,
 }
 
 // Remove: a live slot's Sym becomes 0. Any buffer, any `used`, any journal, any edit number, any slot.
-pub fn remove(map: &mut [u8], used: usize, journal: &mut [u8], edit: u32, at: u32) -> Answer
+pub fn remove(map: &mut [u8], used: usize, journal: &mut [u8], edit: u32, at: u32) -> EditAnswer
     ensures answers { λ r. ⌜ r ≡ removed (now (map .entry)) used (now (journal .entry)) edit at .answer ⌝ }
     ensures maps { λ r. ⌜ now (map .exit) ≡ removed (now (map .entry)) used (now (journal .entry)) edit at .map ⌝ }
     ensures journals { λ r. ⌜ now (journal .exit) ≡ removed (now (map .entry)) used (now (journal .entry)) edit at .journal ⌝ }
@@ -232,7 +239,7 @@ pub fn remove(map: &mut [u8], used: usize, journal: &mut [u8], edit: u32, at: u3
 }
 
 // Reinstate: an erased slot gets its object's Sym. Any buffer, any `used`, any journal, any edit number, any slot.
-pub fn reinstate(map: &mut [u8], used: usize, journal: &mut [u8], edit: u32, at: u32) -> Answer
+pub fn reinstate(map: &mut [u8], used: usize, journal: &mut [u8], edit: u32, at: u32) -> EditAnswer
     ensures answers { λ r. ⌜ r ≡ reinstated (now (map .entry)) used (now (journal .entry)) edit at .answer ⌝ }
     ensures maps { λ r. ⌜ now (map .exit) ≡ reinstated (now (map .entry)) used (now (journal .entry)) edit at .map ⌝ }
     ensures journals { λ r. ⌜ now (journal .exit) ≡ reinstated (now (map .entry)) used (now (journal .entry)) edit at .journal ⌝ }

@@ -16,20 +16,20 @@ use Rattle.accept.specs.Verdicts.{verdict}
 use Rattle.accept.proofs.Accepting.{Holds}
 use Rattle.judge.proofs.Rules.{most-blocks}
 use Rattle.frame.proofs.Writes.{pass-of, slot-lies}
-use Rattle.journal.specs.declared.Look.{Look}
+use Rattle.journal.specs.declared.JournalLook.{JournalLook}
 use Rattle.journal.specs.Journals.{inUse, looked, Reach}
 use Rattle.journal.proofs.Journals.{looked-new}
-use Rattle.edit.specs.declared.Answer.{Answer}
-use Rattle.edit.specs.declared.Answer.the-variants.{Refused}
-use Rattle.edit.specs.declared.Start.the-variants as starts
-use Rattle.accept.specs.declared.Examined.{Examined}
-use Rattle.accept.specs.declared.Examined.the-variants as examined
+use Rattle.edit.specs.declared.EditAnswer.{EditAnswer}
+use Rattle.edit.specs.declared.EditAnswer.the-variants.{Refused}
+use Rattle.edit.specs.declared.EditStart.the-variants as starts
+use Rattle.accept.specs.declared.ExaminedMap.{ExaminedMap}
+use Rattle.accept.specs.declared.ExaminedMap.the-variants as examined
 use Rattle.accept.specs.Slots.{freeSlot, withFree}
 use Rattle.edit.specs.Edits.{Outcome, saying, afterLook, afterCheck, startOf, Known}
 use Prim.Native.Nat.{ℕ, _+_, _*_, _≤_, _<_}
 use mathlib.Core.List.{List}
 use lib.ListN.{length}
-use Rattle.journal.specs.declared.Look.the-variants.{Malformed, Held, New}
+use Rattle.journal.specs.declared.JournalLook.the-variants.{Malformed, Held, New}
 
 -- ---- the tables of an accepted map
 
@@ -65,7 +65,7 @@ pub ordered-by : (m order : List ℕ) {b : ℕ} {v : Verdict} → v ≡ verdicts
 ordered-by m order p o n q = rw (accepted-one p q) at o
 
 -- what the examination and the start leave in the tables
-pub known-by : (m : List ℕ) (used n : ℕ) (index order : List ℕ) {x : Examined} → x ≡ withFree m (verdict m used)
+pub known-by : (m : List ℕ) (used n : ℕ) (index order : List ℕ) {x : ExaminedMap} → x ≡ withFree m (verdict m used)
     → ((k f : ℕ) → x ≡ examined.Accepted k f → Filled indexBlockSize indexPage used index × EndsTable indexBlockSize indexHead indexPage m k index)
     → Ordered indexHead m n order → verdict m used ≡ verdicts.Accepted n → Known m used n index order
 known-by m used n index order e t o q =
@@ -79,7 +79,7 @@ module _ (m : List ℕ) (used : ℕ) (jn : List ℕ) (e : ℕ) where
   unfolding startOf
   start-refused q = rw q
 
-  pub start-look : {n : ℕ} {l : Look} → verdict m used ≡ verdicts.Accepted n → looked jn m n e ≡ l → startOf m used jn e ≡ afterLook m n l
+  pub start-look : {n : ℕ} {l : JournalLook} → verdict m used ≡ verdicts.Accepted n → looked jn m n e ≡ l → startOf m used jn e ≡ afterLook m n l
   unfolding startOf
   start-look q f = rw (q, f)
 
@@ -88,12 +88,12 @@ module _ (m : List ℕ) (used : ℕ) (j : List ℕ) (e : ℕ) where
   no-start : {A : Type 0} → _≡_ {A = ℕ} 0 1 → A
   no-start z = let no-way : ⊥ = omega arith in absurd no-way
 
-  look-held : (k n kind slot : ℕ) (l : Look) → afterLook m k l ≡ starts.Held n kind slot → (k ≡ n) × (l ≡ Held kind slot)
+  look-held : (k n kind slot : ℕ) (l : JournalLook) → afterLook m k l ≡ starts.Held n kind slot → (k ≡ n) × (l ≡ Held kind slot)
   look-held k n kind slot Malformed q = no-start (cc)
   look-held k n kind slot (Held x y) q = ((cc), (cc))
   look-held k n kind slot (New x) q = no-start (cc)
 
-  look-new : (k n r f : ℕ) (l : Look) → afterLook m k l ≡ starts.New n r f → (k ≡ n) × (l ≡ New r) × (f ≡ freeSlot m k)
+  look-new : (k n r f : ℕ) (l : JournalLook) → afterLook m k l ≡ starts.New n r f → (k ≡ n) × (l ≡ New r) × (f ≡ freeSlot m k)
   look-new k n r f Malformed q = no-start (cc)
   look-new k n r f (Held x y) q = no-start (cc)
   look-new k n r f (New x) q = ((cc), (cc), (cc))
@@ -125,5 +125,5 @@ pub parts : {a b : Outcome} → a ≡ b → (b .answer ≡ a .answer) × ((b .ma
 parts e = (sym (ap (λ (o : Outcome). o .answer) e), (sym (ap (λ (o : Outcome). o .map) e), sym (ap (λ (o : Outcome). o .journal) e)))
 
 -- of one that changes nothing, where r is its answer
-pub said : {m jn : List ℕ} {r a : Answer} {w : Outcome} → r ≡ a → w ≡ saying m jn a → (r ≡ w .answer) × ((m ≡ w .map) × (jn ≡ w .journal))
+pub said : {m jn : List ℕ} {r a : EditAnswer} {w : Outcome} → r ≡ a → w ≡ saying m jn a → (r ≡ w .answer) × ((m ≡ w .map) × (jn ≡ w .journal))
 said q e = let p = parts e in (q ∙ p .0, p .1)

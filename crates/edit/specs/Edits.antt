@@ -14,62 +14,62 @@ use Rattle.chain.specs.Cells.{Ordered}
 use Rattle.accept.specs.declared.Verdict.{Verdict}
 use Rattle.accept.specs.declared.Verdict.the-variants as verdicts
 use Rattle.accept.specs.Verdicts.{verdict}
-use Rattle.journal.specs.declared.Look.{Look}
-use Rattle.journal.specs.declared.Look.the-variants.{Malformed, Held, New}
+use Rattle.journal.specs.declared.JournalLook.{JournalLook}
+use Rattle.journal.specs.declared.JournalLook.the-variants.{Malformed, Held, New}
 use Rattle.journal.specs.Journals.{looked}
-use Rattle.edit.specs.declared.Answer.{Answer}
-use Rattle.edit.specs.declared.Answer.the-variants.{Done, Before, Refused}
-use Rattle.edit.specs.declared.Start.{Start}
-use Rattle.edit.specs.declared.Start.the-variants as starts
+use Rattle.edit.specs.declared.EditAnswer.{EditAnswer}
+use Rattle.edit.specs.declared.EditAnswer.the-variants.{Done, Before, Refused}
+use Rattle.edit.specs.declared.EditStart.{EditStart}
+use Rattle.edit.specs.declared.EditStart.the-variants as starts
 use Rattle.accept.specs.Slots.{freeSlot}
 
-abbrev pub numberOf : Answer → ℕ
+abbrev pub numberOf : EditAnswer → ℕ
 numberOf (Done s l) = 0
 numberOf (Before s l) = 0
 numberOf (Refused n p) = n
 
-abbrev pub placeOf : Answer → ℕ
+abbrev pub placeOf : EditAnswer → ℕ
 placeOf (Done s l) = 0
 placeOf (Before s l) = 0
 placeOf (Refused n p) = p
 
-abbrev pub beforeOf : Answer → ℕ
+abbrev pub beforeOf : EditAnswer → ℕ
 beforeOf (Done s l) = 0
 beforeOf (Before s l) = 1
 beforeOf (Refused n p) = 0
 
-abbrev pub slotNo : Answer → ℕ
+abbrev pub slotNo : EditAnswer → ℕ
 slotNo (Done s l) = s
 slotNo (Before s l) = s
 slotNo (Refused n p) = 0
 
-abbrev pub lengthOf : Answer → ℕ
+abbrev pub lengthOf : EditAnswer → ℕ
 lengthOf (Done s l) = l
 lengthOf (Before s l) = l
 lengthOf (Refused n p) = 0
 
 pub record Outcome : Type 0 where
-  pub answer : Answer
+  pub answer : EditAnswer
   pub map : List ℕ
   pub journal : List ℕ
 
 -- an answer that changes nothing
-abbrev pub saying : List ℕ → List ℕ → Answer → Outcome
+abbrev pub saying : List ℕ → List ℕ → EditAnswer → Outcome
 saying m j a = record { answer = a; map = m; journal = j }
 
-abbrev pub afterLook : List ℕ → ℕ → Look → Start
+abbrev pub afterLook : List ℕ → ℕ → JournalLook → EditStart
 afterLook m n Malformed = starts.Refused 13 0
 afterLook m n (Held kind slot) = starts.Held n kind slot
 afterLook m n (New k) = starts.New n k (freeSlot m n)
 
-abbrev pub afterCheck : List ℕ → List ℕ → ℕ → Verdict → Start
+abbrev pub afterCheck : List ℕ → List ℕ → ℕ → Verdict → EditStart
 afterCheck m j e (verdicts.Refused k p) = starts.Refused k p
 afterCheck m j e (verdicts.Accepted n) = afterLook m n (looked j m n e)
 
-unfoldable pub startOf : List ℕ → ℕ → List ℕ → ℕ → Start
+unfoldable pub startOf : List ℕ → ℕ → List ℕ → ℕ → EditStart
 startOf m used j e = afterCheck m j e (verdict m used)
 
-abbrev pub after : List ℕ → List ℕ → (ℕ → ℕ → ℕ → Outcome) → (ℕ → Outcome) → Start → Outcome
+abbrev pub after : List ℕ → List ℕ → (ℕ → ℕ → ℕ → Outcome) → (ℕ → Outcome) → EditStart → Outcome
 after m j repeat fresh (starts.Refused k p) = saying m j (Refused k p)
 after m j repeat fresh (starts.Held n kind slot) = repeat n kind slot
 after m j repeat fresh (starts.New n k f) = fresh n

@@ -1,8 +1,8 @@
 // What the three edits of a map under its journal have in common: their answers, and how they start. Each decides first, on the map and the journal as they are,
 // and writes after.
-use accept::Examined;
+use accept::ExaminedMap;
 use chain::order_blocks;
-use journal::Look;
+use journal::JournalLook;
 use journal::look_up;
 use records::Header;
 ghost use mathlib.Core.Path.{_≡_};
@@ -15,46 +15,46 @@ ghost use Rattle.chain.specs.Cells.{Ordered};
 ghost use Rattle.accept.specs.Slots.{withFree};
 ghost use Rattle.accept.specs.Verdicts.{verdict};
 ghost use Rattle.accept.specs.declared.Verdict.the-variants.{Accepted};
-ghost use Rattle.edit.specs.declared.Answer.the-variants.{Refused};
+ghost use Rattle.edit.specs.declared.EditAnswer.the-variants.{Refused};
 ghost use Rattle.edit.specs.Edits.{numberOf, placeOf, beforeOf, slotNo, lengthOf, startOf};
 
 // What an edit answers: done, or done before, with the slot and the map's length; or a refusal.
-pub enum Answer {
+pub enum EditAnswer {
     Done { slot: u32, length: u32 },
     Before { slot: u32, length: u32 },
     Refused { number: u32, place: u32 },
 }
 
 // Document 01's number of an answer.
-pub fn number(a: Answer) -> u32
+pub fn number(a: EditAnswer) -> u32
     ensures { λ r. ⌜ r ≡ numberOf a ⌝ }
 {
     match a {
-        Answer::Done { slot: _, length: _ } => 0,
-        Answer::Before { slot: _, length: _ } => 0,
-        Answer::Refused { number, place: _ } => number,
+        EditAnswer::Done { slot: _, length: _ } => 0,
+        EditAnswer::Before { slot: _, length: _ } => 0,
+        EditAnswer::Refused { number, place: _ } => number,
     }
 }
 
 // Document 01's place of an answer.
-pub fn place(a: Answer) -> u32
+pub fn place(a: EditAnswer) -> u32
     ensures { λ r. ⌜ r ≡ placeOf a ⌝ }
 {
     match a {
-        Answer::Done { slot: _, length: _ } => 0,
-        Answer::Before { slot: _, length: _ } => 0,
-        Answer::Refused { number: _, place } => place,
+        EditAnswer::Done { slot: _, length: _ } => 0,
+        EditAnswer::Before { slot: _, length: _ } => 0,
+        EditAnswer::Refused { number: _, place } => place,
     }
 }
 
 // 1 for "done before", else 0.
-pub fn before(a: Answer) -> u32
+pub fn before(a: EditAnswer) -> u32
     ensures { λ r. ⌜ r ≡ beforeOf a ⌝ }
 {
     match a {
-        Answer::Done { slot: _, length: _ } => 0,
-        Answer::Before { slot: _, length: _ } => 1,
-        Answer::Refused {
+        EditAnswer::Done { slot: _, length: _ } => 0,
+        EditAnswer::Before { slot: _, length: _ } => 1,
+        EditAnswer::Refused {
             number: _,
             place: _,
         } => 0,
@@ -62,13 +62,13 @@ pub fn before(a: Answer) -> u32
 }
 
 // The slot of a done edit.
-pub fn slot(a: Answer) -> u32
+pub fn slot(a: EditAnswer) -> u32
     ensures { λ r. ⌜ r ≡ slotNo a ⌝ }
 {
     match a {
-        Answer::Done { slot, length: _ } => slot,
-        Answer::Before { slot, length: _ } => slot,
-        Answer::Refused {
+        EditAnswer::Done { slot, length: _ } => slot,
+        EditAnswer::Before { slot, length: _ } => slot,
+        EditAnswer::Refused {
             number: _,
             place: _,
         } => 0,
@@ -76,13 +76,13 @@ pub fn slot(a: Answer) -> u32
 }
 
 // The map's length after an edit.
-pub fn length(a: Answer) -> u32
+pub fn length(a: EditAnswer) -> u32
     ensures { λ r. ⌜ r ≡ lengthOf a ⌝ }
 {
     match a {
-        Answer::Done { slot: _, length } => length,
-        Answer::Before { slot: _, length } => length,
-        Answer::Refused {
+        EditAnswer::Done { slot: _, length } => length,
+        EditAnswer::Before { slot: _, length } => length,
+        EditAnswer::Refused {
             number: _,
             place: _,
         } => 0,
@@ -90,15 +90,15 @@ pub fn length(a: Answer) -> u32
 }
 
 // A refusal that has no place.
-pub fn refused(number: u32) -> Answer
+pub fn refused(number: u32) -> EditAnswer
     ensures { λ r. ⌜ r ≡ Refused number 0 ⌝ }
 {
-    Answer::Refused { number, place: 0 }
+    EditAnswer::Refused { number, place: 0 }
 }
 
 // How an edit starts: refused by the check or for its journal; or its number is held, by a record of this kind and slot; or it is new, in a map of so many
 // index blocks and a journal of so many records, with its first free slot.
-pub enum Start {
+pub enum EditStart {
     Refused {
         number: u32,
         place: u32,
@@ -117,22 +117,29 @@ pub enum Start {
 
 // How an edit starts on a map that was examined: the check's refusal, or what the look into the journal says. The lent order has the index blocks afterwards,
 // where the map is accepted. The examination is the caller's, so that its tables are gone when those of the journal are made.
-pub fn begin(m: &[u8], used: usize, j: &[u8], e: u32, v: Examined, order: &mut [u32]) -> Start
+pub fn begin(
+    m: &[u8],
+    used: usize,
+    j: &[u8],
+    e: u32,
+    v: ExaminedMap,
+    order: &mut [u32],
+) -> EditStart
     requires { ⌜ (v ≡ withFree (now m) (verdict (now m) used)) × (used ≤ mapLimit → used < headerSize + indexBlockSize * (length (now order) + 1)) ⌝ }
     ensures { λ r. ⌜ (r ≡ startOf (now (m .entry)) used (now (j .entry)) e) × ((n : ℕ) → verdict (now (m .entry)) used ≡ Accepted n → Ordered indexHead (now (m .entry)) n (now (order .exit))) ⌝ }
 {
     match v {
-        Examined::Refused { number, place } => Start::Refused { number, place },
-        Examined::Accepted { blocks, free } => {
+        ExaminedMap::Refused { number, place } => EditStart::Refused { number, place },
+        ExaminedMap::Accepted { blocks, free } => {
             order_blocks(m, Header::INDEX, blocks, order);
             let look = look_up(j, m, order, blocks, e);
             match look {
-                Look::Malformed => Start::Refused {
+                JournalLook::Malformed => EditStart::Refused {
                     number: 13,
                     place: 0,
                 },
-                Look::Held { kind, slot } => Start::Held { blocks, kind, slot },
-                Look::New { used: records } => Start::New {
+                JournalLook::Held { kind, slot } => EditStart::Held { blocks, kind, slot },
+                JournalLook::New { used: records } => EditStart::New {
                     blocks,
                     records,
                     free,

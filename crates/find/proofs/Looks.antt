@@ -32,10 +32,10 @@ use Rattle.records.specs.Headers.{indexHead}
 use Rattle.chain.specs.Chains.{place}
 use Rattle.chain.specs.Cells.{cellIn}
 use Rattle.chain.proofs.Chains.{Pass, walked-pass}
-use Rattle.accept.specs.declared.Judged.{Judged}
-use Rattle.accept.specs.declared.Judged.the-variants.{Good, Bad}
+use Rattle.accept.specs.declared.JudgedMap.{JudgedMap}
+use Rattle.accept.specs.declared.JudgedMap.the-variants.{Good, Bad}
 use Rattle.accept.specs.declared.Verdict.the-variants.{Accepted}
-use Rattle.accept.specs.declared.Opened.the-variants as opened
+use Rattle.accept.specs.declared.OpenedMap.the-variants as opened
 use Rattle.accept.specs.Opens.{openedOf, afterOpened, Open}
 use Rattle.judge.specs.Rules.{indexRule, touches}
 use Rattle.judge.specs.Judging.{versionOf, badSlot}
@@ -250,5 +250,5 @@ pub open-few : {m : List ℕ} {used n : ℕ} {t : List ℕ} → Open m used n t 
 open-few {m} {used} o = most-blocks (walked-pass (indexRule m) m used (o .index)) (o .indexed .limit)
 
 -- and 7 is the check's answer for it
-pub open-judged : (m : List ℕ) (used n : ℕ) → openedOf m used ≡ opened.Blocks n → {j : Judged} → slotsJudged m used n ≡ j → verdict m used ≡ unless j (Accepted n)
-open-judged m used n o e = verdict-opened m used ∙ ap (afterOpened m used) o ∙ ap (λ (i : Judged). unless i (Accepted n)) e
+pub open-judged : (m : List ℕ) (used n : ℕ) → openedOf m used ≡ opened.Blocks n → {j : JudgedMap} → slotsJudged m used n ≡ j → verdict m used ≡ unless j (Accepted n)
+open-judged m used n o e = verdict-opened m used ∙ ap (afterOpened m used) o ∙ ap (λ (i : JudgedMap). unless i (Accepted n)) e

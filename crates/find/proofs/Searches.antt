@@ -39,8 +39,8 @@ use Rattle.judge.specs.Rules.{indexRule, slotAt}
 use Rattle.judge.specs.Judging.{lengthGood}
 use Rattle.accept.specs.Verdicts.{headerJudged, verdict}
 use Rattle.accept.proofs.Accepting.{accepted-tells}
-use Rattle.find.specs.declared.Answer.{Answer}
-use Rattle.find.specs.declared.Answer.the-variants.{Found, Short, Refused}
+use Rattle.find.specs.declared.SearchAnswer.{SearchAnswer}
+use Rattle.find.specs.declared.SearchAnswer.the-variants.{Found, Short, Refused}
 use Rattle.find.specs.Searches.{numberOf, countOf, checkedLength, wantedAt, liveIn, slotsFor, found, answerFor, answerOf, listFor, listAfter, In}
 use Rattle.find.proofs.Selected.{sel-in, sel-ascends, sel-at}
 
@@ -151,12 +151,12 @@ blocks-walked m used w room {b} e = accepted-tells m used b (found-tells m used 
 -- ---- what the lent list holds afterwards
 
 module _ (m : List ℕ) (used : ℕ) (w : Window) (l : List ℕ) where
-  by-answer : {a : Answer} → answerOf m used w (length l) ≡ a → listAfter m used w l ≡ listFor a (λ n. found m n w) l
+  by-answer : {a : SearchAnswer} → answerOf m used w (length l) ≡ a → listAfter m used w l ≡ listFor a (λ n. found m n w) l
   unfolding listAfter
   by-answer e = rw e
 
   -- the answer and the list, as the code leaves them
-  pub answers : {a : Answer} → answerOf m used w (length l) ≡ a → (a ≡ answerOf m used w (length l)) × (listFor a (λ n. found m n w) l ≡ listAfter m used w l)
+  pub answers : {a : SearchAnswer} → answerOf m used w (length l) ≡ a → (a ≡ answerOf m used w (length l)) × (listFor a (λ n. found m n w) l ≡ listAfter m used w l)
   answers e = (sym e, sym (by-answer e))
 
   pub listed : {c b : ℕ} → answerOf m used w (length l) ≡ Found c b → (i : ℕ) → i < c → getD (listAfter m used w l) i 0 ≡ getD (found m b w) i 0
@@ -172,7 +172,7 @@ module _ (m : List ℕ) (used : ℕ) (w : Window) (l : List ℕ) where
   pub kept : (i : ℕ) → countOf (answerOf m used w (length l)) ≤ i → getD (listAfter m used w l) i 0 ≡ getD l i 0
   kept i = go (answerOf m used w (length l)) refl
     where
-      go : (a : Answer) → answerOf m used w (length l) ≡ a → countOf a ≤ i → getD (listAfter m used w l) i 0 ≡ getD l i 0
+      go : (a : SearchAnswer) → answerOf m used w (length l) ≡ a → countOf a ≤ i → getD (listAfter m used w l) i 0 ≡ getD l i 0
       go (Found c b) e h = rw (by-answer e) (getD-sets-high (found m b w) l 0 i (omega (arith, found-tells m used w (length l) e .counted)))
       go (Short c) e h = rw (by-answer e)
       go (Refused k p) e h = rw (by-answer e)
@@ -188,7 +188,7 @@ module _ (m : List ℕ) (used : ℕ) (w : Window) (l : List ℕ) where
   pub refusal-leaves : (numberOf (answerOf m used w (length l)) ≡ 0 → ⊥) → listAfter m used w l ≡ l
   refusal-leaves = go (answerOf m used w (length l)) refl
     where
-      go : (a : Answer) → answerOf m used w (length l) ≡ a → (numberOf a ≡ 0 → ⊥) → listAfter m used w l ≡ l
+      go : (a : SearchAnswer) → answerOf m used w (length l) ≡ a → (numberOf a ≡ 0 → ⊥) → listAfter m used w l ≡ l
       go (Found c b) e h = absurd (h refl)
       go (Short c) e h = by-answer e
       go (Refused k p) e h = by-answer e

@@ -9,8 +9,8 @@ use lib.Dec.{leb}
 use lib.ListN.{length, drop}
 use Rattle.records.specs.Sizes.{windowSize}
 use Rattle.windows.specs.Windows.{windowOf}
-use Rattle.find.specs.declared.Answer.{Answer}
-use Rattle.find.specs.declared.Answer.the-variants.{Refused}
+use Rattle.find.specs.declared.SearchAnswer.{SearchAnswer}
+use Rattle.find.specs.declared.SearchAnswer.the-variants.{Refused}
 use Rattle.find.specs.Searches.{answerOf, listAfter}
 
 abbrev pub programLimit : ℕ
@@ -19,7 +19,7 @@ programLimit = 65536
 unfoldable pub inputGood : List ℕ → Bool
 inputGood i = leb windowSize (length i) && leb (length i) (windowSize + programLimit)
 
-unfoldable pub inputAnswer : List ℕ → ℕ → Answer
+unfoldable pub inputAnswer : List ℕ → ℕ → SearchAnswer
 inputAnswer i room =
     cond (inputGood i) (answerOf (drop windowSize i) (length i - windowSize) (windowOf i) room) (Refused 1 0)
 

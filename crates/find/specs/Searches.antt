@@ -31,25 +31,25 @@ use Rattle.accept.specs.declared.Verdict.the-variants as verdicts
 use Rattle.judge.specs.Rules.{slotAt}
 use Rattle.judge.specs.Judging.{lengthGood}
 use Rattle.accept.specs.Verdicts.{verdict}
-use Rattle.find.specs.declared.Answer.{Answer}
-use Rattle.find.specs.declared.Answer.the-variants.{Found, Short, Refused}
+use Rattle.find.specs.declared.SearchAnswer.{SearchAnswer}
+use Rattle.find.specs.declared.SearchAnswer.the-variants.{Found, Short, Refused}
 
-abbrev pub numberOf : Answer → ℕ
+abbrev pub numberOf : SearchAnswer → ℕ
 numberOf (Found c b) = 0
 numberOf (Short c) = 9
 numberOf (Refused n p) = n
 
-abbrev pub placeOf : Answer → ℕ
+abbrev pub placeOf : SearchAnswer → ℕ
 placeOf (Found c b) = 0
 placeOf (Short c) = 0
 placeOf (Refused n p) = p
 
-abbrev pub countOf : Answer → ℕ
+abbrev pub countOf : SearchAnswer → ℕ
 countOf (Found c b) = c
 countOf (Short c) = c
 countOf (Refused n p) = 0
 
-abbrev pub blocksOf : Answer → ℕ
+abbrev pub blocksOf : SearchAnswer → ℕ
 blocksOf (Found c b) = b
 blocksOf (Short c) = 0
 blocksOf (Refused n p) = 0
@@ -78,15 +78,15 @@ selected m n k w = slotsFor (wantedIn m k w) n
 abbrev pub found : List ℕ → ℕ → Window → List ℕ
 found m n w = selected m n Live w
 
-unfoldable pub answerFor : Verdict → (ℕ → List ℕ) → Bool → ℕ → Answer
+unfoldable pub answerFor : Verdict → (ℕ → List ℕ) → Bool → ℕ → SearchAnswer
 answerFor (verdicts.Refused n p) hits good room = Refused n p
 answerFor (verdicts.Accepted n) hits good room =
     cond good (cond (ltb room (length (hits n))) (Short (length (hits n))) (Found (length (hits n)) n)) (Refused 8 0)
 
-unfoldable pub answerOf : List ℕ → ℕ → Window → ℕ → Answer
+unfoldable pub answerOf : List ℕ → ℕ → Window → ℕ → SearchAnswer
 answerOf m used w room = answerFor (verdict m used) (λ n. found m n w) (windowGood w) room
 
-abbrev pub listFor : Answer → (ℕ → List ℕ) → List ℕ → List ℕ
+abbrev pub listFor : SearchAnswer → (ℕ → List ℕ) → List ℕ → List ℕ
 listFor (Found c b) hits l = sets l 0 (hits b)
 listFor (Short c) hits l = l
 listFor (Refused n p) hits l = l

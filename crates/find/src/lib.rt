@@ -1,7 +1,7 @@
 // The search by rectangle: one pass over the slots, which judges each and has a bit for it, and then the list of the bits that are 1.
 mod look;
 
-use accept::Opened;
+use accept::OpenedMap;
 use accept::Verdict;
 use accept::open_map;
 use bits::list_words;
@@ -18,54 +18,54 @@ ghost use lib.ListN.{length};
 ghost use Rattle.windows.specs.declared.Window.{Window};
 ghost use Rattle.windows.specs.Windows.{windowGood};
 ghost use Rattle.accept.specs.Opens.{Open, Opens, openedOf};
-ghost use Rattle.accept.specs.declared.Opened.the-variants.{Blocks};
+ghost use Rattle.accept.specs.declared.OpenedMap.the-variants.{Blocks};
 ghost use Rattle.find.specs.Searches.{numberOf, placeOf, countOf, blocksOf, checkedLength, answerOf, listAfter};
 ghost use Rattle.find.specs.Looks.{blockWords};
 ghost use Rattle.find.specs.Inputs.{inputAnswer, inputList};
 
 // What a search answers: the count found and the blocks walked; or the count that the list is too short for; or a refusal.
-pub enum Answer {
+pub enum SearchAnswer {
     Found { count: u32, blocks: u32 },
     Short { count: u32 },
     Refused { number: u32, place: u32 },
 }
 
 // Document 01's number of an answer.
-pub fn number(a: Answer) -> u32
+pub fn number(a: SearchAnswer) -> u32
     ensures { λ r. ⌜ r ≡ numberOf a ⌝ }
 {
     match a {
-        Answer::Found {
+        SearchAnswer::Found {
             count: _,
             blocks: _,
         } => 0,
-        Answer::Short { count: _ } => 9,
-        Answer::Refused { number, place: _ } => number,
+        SearchAnswer::Short { count: _ } => 9,
+        SearchAnswer::Refused { number, place: _ } => number,
     }
 }
 
 // Document 01's place of an answer.
-pub fn place(a: Answer) -> u32
+pub fn place(a: SearchAnswer) -> u32
     ensures { λ r. ⌜ r ≡ placeOf a ⌝ }
 {
     match a {
-        Answer::Found {
+        SearchAnswer::Found {
             count: _,
             blocks: _,
         } => 0,
-        Answer::Short { count: _ } => 0,
-        Answer::Refused { number: _, place } => place,
+        SearchAnswer::Short { count: _ } => 0,
+        SearchAnswer::Refused { number: _, place } => place,
     }
 }
 
 // The count found, or needed.
-pub fn count(a: Answer) -> u32
+pub fn count(a: SearchAnswer) -> u32
     ensures { λ r. ⌜ r ≡ countOf a ⌝ }
 {
     match a {
-        Answer::Found { count, blocks: _ } => count,
-        Answer::Short { count } => count,
-        Answer::Refused {
+        SearchAnswer::Found { count, blocks: _ } => count,
+        SearchAnswer::Short { count } => count,
+        SearchAnswer::Refused {
             number: _,
             place: _,
         } => 0,
@@ -73,13 +73,13 @@ pub fn count(a: Answer) -> u32
 }
 
 // The blocks walked.
-pub fn blocks(a: Answer) -> u32
+pub fn blocks(a: SearchAnswer) -> u32
     ensures { λ r. ⌜ r ≡ blocksOf a ⌝ }
 {
     match a {
-        Answer::Found { count: _, blocks } => blocks,
-        Answer::Short { count: _ } => 0,
-        Answer::Refused {
+        SearchAnswer::Found { count: _, blocks } => blocks,
+        SearchAnswer::Short { count: _ } => 0,
+        SearchAnswer::Refused {
             number: _,
             place: _,
         } => 0,
@@ -111,25 +111,25 @@ fn search_words(
     w: Window,
     list: &mut [u32],
     words: &mut [u64],
-) -> Answer
+) -> SearchAnswer
     requires { ⌜ Open (now m) used n (now index) × (openedOf (now m) used ≡ Blocks n) × (windowGood w ≡ true) × (blockWords * n ≤ length (now words)) ⌝ }
     ensures { λ r. ⌜ (r ≡ answerOf (now (m .entry)) used w (length (now (list .entry)))) × (now (list .exit) ≡ listAfter (now (m .entry)) used w (now (list .entry))) ⌝ }
 {
     let l = look_in_slots(m, used, index, n, w, words);
     if l.bad != 0 {
-        return Answer::Refused {
+        return SearchAnswer::Refused {
             number: 7,
             place: l.bad as u32,
         };
     }
     let count = l.count;
     if list.len() < count {
-        return Answer::Short {
+        return SearchAnswer::Short {
             count: count as u32,
         };
     }
     list_words(list, words, BLOCK_WORDS * n);
-    Answer::Found {
+    SearchAnswer::Found {
         count: count as u32,
         blocks: n as u32,
     }
@@ -146,7 +146,7 @@ fn search_slots(
     n: usize,
     w: Window,
     list: &mut [u32],
-) -> Answer
+) -> SearchAnswer
     requires { ⌜ Open (now m) used n (now index) × (openedOf (now m) used ≡ Blocks n) × (windowGood w ≡ true) ⌝ }
     ensures { λ r. ⌜ (r ≡ answerOf (now (m .entry)) used w (length (now (list .entry)))) × (now (list .exit) ≡ listAfter (now (m .entry)) used w (now (list .entry))) ⌝ }
 {
@@ -167,27 +167,27 @@ fn search_opened(
     m: &[u8],
     used: usize,
     index: &[u32],
-    o: Opened,
+    o: OpenedMap,
     w: Window,
     list: &mut [u32],
-) -> Answer
+) -> SearchAnswer
     requires { ⌜ Opens (now m) used (now index) o × (o ≡ openedOf (now m) used) × (windowGood w ≡ true) ⌝ }
     ensures { λ r. ⌜ (r ≡ answerOf (now (m .entry)) used w (length (now (list .entry)))) × (now (list .exit) ≡ listAfter (now (m .entry)) used w (now (list .entry))) ⌝ }
 {
     match o {
-        Opened::Refused { number, place } => Answer::Refused { number, place },
-        Opened::Blocks(n) => search_slots(m, used, index, n, w, list),
+        OpenedMap::Refused { number, place } => SearchAnswer::Refused { number, place },
+        OpenedMap::Blocks(n) => search_slots(m, used, index, n, w, list),
     }
 }
 
 // What a window that is not good answers: the check's refusal, or 8.
-fn bad_window(m: &[u8], used: usize) -> Answer
+fn bad_window(m: &[u8], used: usize) -> SearchAnswer
     ensures { λ r. ⌜ ((w : Window) → (room : ℕ) → windowGood w ≡ false → r ≡ answerOf (now (m .entry)) used w room) ⌝ }
 {
     let v = accept::check(m, used);
     match v {
-        Verdict::Refused { number, place } => Answer::Refused { number, place },
-        Verdict::Accepted { blocks: _ } => Answer::Refused {
+        Verdict::Refused { number, place } => SearchAnswer::Refused { number, place },
+        Verdict::Accepted { blocks: _ } => SearchAnswer::Refused {
             number: 8,
             place: 0,
         },
@@ -195,7 +195,7 @@ fn bad_window(m: &[u8], used: usize) -> Answer
 }
 
 // The search. Any slice, any `used`, any window, any list.
-pub fn search(m: &[u8], used: usize, w: Window, list: &mut [u32]) -> Answer
+pub fn search(m: &[u8], used: usize, w: Window, list: &mut [u32]) -> SearchAnswer
     ensures { λ r. ⌜ (r ≡ answerOf (now (m .entry)) used w (length (now (list .entry)))) × (now (list .exit) ≡ listAfter (now (m .entry)) used w (now (list .entry))) ⌝ }
 {
     if !window_good(w) {
@@ -215,18 +215,18 @@ pub fn search(m: &[u8], used: usize, w: Window, list: &mut [u32]) -> Answer
 pub const PROGRAM_LIMIT: usize = 65536;
 
 // The search on the program's input: a window, then a map.
-pub fn search_input(input: &[u8], list: &mut [u32]) -> Answer
+pub fn search_input(input: &[u8], list: &mut [u32]) -> SearchAnswer
     ensures { λ r. ⌜ (r ≡ inputAnswer (now (input .entry)) (length (now (list .entry)))) × (now (list .exit) ≡ inputList (now (input .entry)) (now (list .entry))) ⌝ }
 {
     if input.len() < Window::SIZE {
-        return Answer::Refused {
+        return SearchAnswer::Refused {
             number: 1,
             place: 0,
         };
     }
     let used = input.len() - Window::SIZE;
     if PROGRAM_LIMIT < used {
-        return Answer::Refused {
+        return SearchAnswer::Refused {
             number: 1,
             place: 0,
         };

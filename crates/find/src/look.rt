@@ -18,7 +18,7 @@ ghost use Rattle.windows.specs.declared.Window.{Window};
 ghost use Rattle.bits.specs.Bits.{bitsFrom, wordBits};
 ghost use Rattle.chain.specs.Cells.{cellIn};
 ghost use Rattle.chain.specs.Tables.{endsMeet};
-ghost use Rattle.accept.specs.declared.Judged.the-variants.{Good, Bad};
+ghost use Rattle.accept.specs.declared.JudgedMap.the-variants.{Good, Bad};
 ghost use Rattle.judge.specs.Indexed.{Indexed};
 ghost use Rattle.judge.specs.Judging.{badSlot};
 ghost use Rattle.accept.specs.Opens.{Open};

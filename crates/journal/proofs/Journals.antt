@@ -22,8 +22,8 @@ use Rattle.records.specs.Sizes.{journalRecordSize, journalLimit}
 use Rattle.records.specs.Journals.{shapeGood, isUnused, recordBytes}
 use Rattle.records.proofs.Journals.{RecordFits, record-cong, record-back, length-recordBytes}
 use Rattle.journal.specs.Journals.{recordIn, total, inUse, slotUsed, recordGood, badRecord, wellFormed, holder, isHeld, isFull, appended, looked, recordsTo, recordsOf}
-use Rattle.journal.specs.declared.Look.{Look}
-use Rattle.journal.specs.declared.Look.the-variants.{Malformed, Held, New}
+use Rattle.journal.specs.declared.JournalLook.{JournalLook}
+use Rattle.journal.specs.declared.JournalLook.the-variants.{Malformed, Held, New}
 use Rattle.journal.proofs.Below.{zero-one, and-tells, none-split}
 use Rattle.journal.proofs.Records.{shape-in-use, in-use-within, in-use-not-unused, not-full, next-bytes, recordsTo-same}
 
@@ -242,7 +242,7 @@ pub record Sound (jn m : List ℕ) (n e : ℕ) : Type 0 where
   pub number : e ≡ 0 → ⊥
   pub well : wellFormed jn m n ≡ true
 
-by-look : (jn m : List ℕ) (n e : ℕ) {A : Type 0} (l : Look) → looked jn m n e ≡ l
+by-look : (jn m : List ℕ) (n e : ℕ) {A : Type 0} (l : JournalLook) → looked jn m n e ≡ l
     → (l ≡ Malformed → (e ≡ 0) ⊎ (wellFormed jn m n ≡ false) → A)
     → (Sound jn m n e → isHeld jn e ≡ true → l ≡ Held (recordIn jn (holder jn e) .kind) (recordIn jn (holder jn e) .slot) → A)
     → (Sound jn m n e → isHeld jn e ≡ false → l ≡ New (inUse jn) → A)

@@ -23,9 +23,9 @@ use Rattle.records.specs.Sizes.{journalRecordSize, journalLimit}
 use Rattle.records.specs.Journals.{recordFor, shapeGood, isUnused}
 use Rattle.journal.specs.Journals.{recordIn, total, inUse, slotUsed, recordGood, wellFormed, holder, isHeld, looked}
 use Rattle.journal.specs.Passes.{bitsOf, linkOf, Down, Linked, Comes, heldIn, judged}
-use Rattle.journal.specs.declared.Judged.{Judged}
-use Rattle.journal.specs.declared.Judged.the-variants.{Bad, Good}
-use Rattle.journal.specs.declared.Look.the-variants.{Malformed, Held, New}
+use Rattle.journal.specs.declared.JudgedJournal.{JudgedJournal}
+use Rattle.journal.specs.declared.JudgedJournal.the-variants.{Bad, Good}
+use Rattle.journal.specs.declared.JournalLook.the-variants.{Malformed, Held, New}
 use Rattle.journal.proofs.Below.{zero-one, not-true-is}
 use Rattle.journal.proofs.Records.{shape-in-use, in-use-past, in-use-within}
 use Rattle.journal.proofs.Journals.{good-tells, well-formed-parts, held-is, holder-only, held-tells}
@@ -258,7 +258,7 @@ held-law jn e (suc i) = go (held-law jn e i) (eqb (recordIn jn i .number) e) ref
         h)
 
 -- the answer, taken apart
-by-judged : (jn m : List ℕ) (n e : ℕ) {A : Type 0} (l : Judged) → judged jn m n e ≡ l
+by-judged : (jn m : List ℕ) (n e : ℕ) {A : Type 0} (l : JudgedJournal) → judged jn m n e ≡ l
     → (l ≡ Bad → any (λ (i : ℕ). not (recordGood jn m n i)) (inUse jn) ≡ true → A)
     → (l ≡ Good (inUse jn) (heldIn jn e (inUse jn)) → any (λ (i : ℕ). not (recordGood jn m n i)) (inUse jn) ≡ false → A)
     → A

@@ -30,8 +30,8 @@ use Rattle.slots.specs.Slots.{slotOf}
 use Rattle.records.specs.Journals.{recordOf, recordBytes, shapeGood, isUnused}
 use Rattle.chain.specs.Cells.{Ordered}
 use Rattle.judge.specs.Rules.{slotAt}
-use Rattle.journal.specs.declared.Look.{Look}
-use Rattle.journal.specs.declared.Look.the-variants.{Malformed, Held, New}
+use Rattle.journal.specs.declared.JournalLook.{JournalLook}
+use Rattle.journal.specs.declared.JournalLook.the-variants.{Malformed, Held, New}
 
 unfoldable pub recordIn : List ℕ → ℕ → JournalRecord
 recordIn j i = recordOf j (journalRecordSize * i)
@@ -69,7 +69,7 @@ isFull j = eqb (inUse j) (total j)
 unfoldable pub appended : List ℕ → JournalRecord → List ℕ
 appended j r = sets j (journalRecordSize * inUse j) (recordBytes r)
 
-unfoldable pub looked : List ℕ → List ℕ → ℕ → ℕ → Look
+unfoldable pub looked : List ℕ → List ℕ → ℕ → ℕ → JournalLook
 looked j m n e =
     cond (not (eqb e 0) && wellFormed j m n)
     (cond (isHeld j e) (Held (recordIn j (holder j e) .kind) (recordIn j (holder j e) .slot)) (New (inUse j)))

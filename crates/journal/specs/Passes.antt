@@ -19,8 +19,8 @@ use Rattle.records.specs.declared.JournalRecord.{JournalRecord}
 use Rattle.records.specs.Sizes.{journalRecordSize}
 use Rattle.records.specs.Journals.{recordFor}
 use Rattle.journal.specs.Journals.{recordIn, inUse, recordGood}
-use Rattle.journal.specs.declared.Judged.{Judged}
-use Rattle.journal.specs.declared.Judged.the-variants.{Bad, Good}
+use Rattle.journal.specs.declared.JudgedJournal.{JudgedJournal}
+use Rattle.journal.specs.declared.JudgedJournal.the-variants.{Bad, Good}
 
 unfoldable pub bitsOf : ℕ → ℕ → ℕ → ℕ
 bitsOf b e zero = e * 2654435769 % 4294967296 * b
@@ -51,5 +51,5 @@ unfoldable pub heldIn : List ℕ → ℕ → ℕ → JournalRecord
 heldIn j e zero = recordFor 0 0 0
 heldIn j e (suc k) = cond (eqb (recordIn j k .number) e) (recordIn j k) (heldIn j e k)
 
-unfoldable pub judged : List ℕ → List ℕ → ℕ → ℕ → Judged
+unfoldable pub judged : List ℕ → List ℕ → ℕ → ℕ → JudgedJournal
 judged j m n e = cond (any (λ i. not (recordGood j m n i)) (inUse j)) Bad (Good (inUse j) (heldIn j e (inUse j)))

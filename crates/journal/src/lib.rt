@@ -19,14 +19,14 @@ ghost use Rattle.journal.specs.Journals.{recordIn, total, inUse, slotUse
 ghost use Rattle.journal.specs.Passes.{bitsOf, Linked, Comes, judged};
 
 // What a look into a journal for an edit number answers. `used` is the number of records in use.
-pub enum Look {
+pub enum JournalLook {
     Malformed,
     Held { kind: u32, slot: u32 },
     New { used: usize },
 }
 
 // What the pass over the records in use answers: one is not good; or how many they are, and the one that holds the edit number, all zero where none does.
-pub enum Judged {
+pub enum JudgedJournal {
     Bad,
     Good { used: usize, held: JournalRecord },
 }
@@ -99,7 +99,7 @@ fn judge_records(
     e: u32,
     links: &mut [u16],
     trees: usize,
-) -> Judged
+) -> JudgedJournal
     requires { ⌜ (length (now j) ≤ journalLimit) × Reach (now m) (now order) n × (0 < trees) × (trees ≤ 65536) × Empty (now links) × (trees + 2 * total (now j) ≤ length (now links)) ⌝ }
     ensures { λ r. ⌜ r ≡ judged (now (j .entry)) (now (m .entry)) n e ⌝ }
 {
@@ -109,17 +109,17 @@ fn judge_records(
     while i < all {
         let r = record_in(j, i);
         if r.is_unused() {
-            return Judged::Good { used: i, held };
+            return JudgedJournal::Good { used: i, held };
         }
         if !r.shape_good() {
-            return Judged::Bad;
+            return JudgedJournal::Bad;
         }
         if !slot_used(m, order, n, r.slot) {
-            return Judged::Bad;
+            return JudgedJournal::Bad;
         }
         let at = link_for(j, links, trees, r.number);
         if links[at] != 0 {
-            return Judged::Bad;
+            return JudgedJournal::Bad;
         }
         links[at] = (i + 1) as u16;
         if r.number == e {
@@ -127,7 +127,7 @@ fn judge_records(
         }
         i += 1;
     }
-    Judged::Good { used: i, held }
+    JudgedJournal::Good { used: i, held }
 }
 
 // A journal with room for so few records, for so many, or for as many as a journal can have.
@@ -138,7 +138,7 @@ const SOME: usize = 512;
 const MOST: usize = JournalRecord::LIMIT / JournalRecord::SIZE;
 
 // The records in use, judged with links as many as the journal needs: two trees and two links for each record.
-fn judge_journal(j: &[u8], m: &[u8], order: &[u32], n: usize, e: u32) -> Judged
+fn judge_journal(j: &[u8], m: &[u8], order: &[u32], n: usize, e: u32) -> JudgedJournal
     requires { ⌜ (length (now j) ≤ journalLimit) × Reach (now m) (now order) n ⌝ }
     ensures { λ r. ⌜ r ≡ judged (now (j .entry)) (now (m .entry)) n e ⌝ }
 {
@@ -163,30 +163,30 @@ fn rest_unused(j: &[u8], k: usize) -> bool
 }
 
 // A look into the journal for an edit number. The map has n index blocks, whose order is lent.
-pub fn look_up(j: &[u8], m: &[u8], order: &[u32], n: usize, e: u32) -> Look
+pub fn look_up(j: &[u8], m: &[u8], order: &[u32], n: usize, e: u32) -> JournalLook
     requires { ⌜ Reach (now m) (now order) n ⌝ }
     ensures { λ r. ⌜ r ≡ looked (now (j .entry)) (now (m .entry)) n e ⌝ }
 {
     if e == 0 {
-        return Look::Malformed;
+        return JournalLook::Malformed;
     }
     if JournalRecord::LIMIT < j.len() {
-        return Look::Malformed;
+        return JournalLook::Malformed;
     }
     if j.len() % JournalRecord::SIZE != 0 {
-        return Look::Malformed;
+        return JournalLook::Malformed;
     }
     let records = judge_journal(j, m, order, n, e);
     match records {
-        Judged::Bad => Look::Malformed,
-        Judged::Good { used, held } => {
+        JudgedJournal::Bad => JournalLook::Malformed,
+        JudgedJournal::Good { used, held } => {
             if !rest_unused(j, used) {
-                return Look::Malformed;
+                return JournalLook::Malformed;
             }
             if held.number != e {
-                return Look::New { used };
+                return JournalLook::New { used };
             }
-            Look::Held {
+            JournalLook::Held {
                 kind: held.kind,
                 slot: held.slot,
             }

@@ -2,7 +2,7 @@
 use mathlib.Core.Path.{_≡_, sym, _∙_}
 use mathlib.Core.List.{List}
 use Prim.Native.Nat.{ℕ}
-use Rattle.find.specs.declared.Answer.{Answer}
+use Rattle.find.specs.declared.SearchAnswer.{SearchAnswer}
 use Rattle.edit.specs.Edits.{Outcome}
 use Rattle.promise.specs.Answers.{One, Searched, Edit, CEdit, OneAnswer}
 
@@ -13,7 +13,7 @@ same p q = p ∙ sym q
 one-number : (n : ℕ) → One (λ r. r ≡ n)
 one-number n a b p q = same p q
 
-one-search : (x : Answer) (l : List ℕ) → One (λ (r : Searched). (r .answer ≡ x) × (r .list ≡ l))
+one-search : (x : SearchAnswer) (l : List ℕ) → One (λ (r : Searched). (r .answer ≡ x) × (r .list ≡ l))
 one-search x l a b p q = λ i. record { answer = same (p .0) (q .0) i; list = same (p .1) (q .1) i }
 
 one-edit : (o : Outcome) → One (Edit o)

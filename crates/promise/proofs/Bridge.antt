@@ -27,7 +27,7 @@ use Rattle.frame.proofs.Writes.{slot-lies}
 use Rattle.journal.specs.Journals.{looked}
 use Rattle.journal.proofs.Journals.{room-of, appended-new, appended-holds, appended-holder}
 use Rattle.journal.proofs.Records.{not-full, shape-tells}
-use Rattle.edit.specs.declared.Answer.the-variants.{Before}
+use Rattle.edit.specs.declared.EditAnswer.the-variants.{Before}
 use Rattle.accept.specs.Slots.{slotIn}
 use Rattle.change.specs.Slots.{hasState, resym, objectSym}
 use Rattle.edit.specs.Edits.{startOf}

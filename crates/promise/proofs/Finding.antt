@@ -13,7 +13,7 @@ use Rattle.slots.specs.declared.State.the-variants.{Live}
 use Rattle.slots.specs.Slots.{slotOf, stateOf, sameState}
 use Rattle.windows.specs.Windows.{meetsWindow}
 use Rattle.judge.specs.Rules.{slotAt}
-use Rattle.find.specs.declared.Answer.{Answer}
+use Rattle.find.specs.declared.SearchAnswer.{SearchAnswer}
 use Rattle.find.specs.Searches.{wantedAt, found, answerOf, listFor, listAfter, In}
 use Rattle.find.proofs.Searches.{in-list, ascending, answer-window, answer-short, answer-found, answers, list-found}
 use Rattle.accept.specs.Slots.{slotIn}
@@ -40,7 +40,7 @@ found-is m n w s =
     )
 
 -- what a search says, by its answer
-says : (m : List ℕ) (used : ℕ) (w : Window) (l : List ℕ) {a : Answer} → answerOf m used w (length l) ≡ a → searched (answerOf m used w (length l)) (listAfter m used w l) ≡ searched a (listFor a (λ n. found m n w) l)
+says : (m : List ℕ) (used : ℕ) (w : Window) (l : List ℕ) {a : SearchAnswer} → answerOf m used w (length l) ≡ a → searched (answerOf m used w (length l)) (listAfter m used w l) ≡ searched a (listFor a (λ n. found m n w) l)
 says m used w l e = ap₂ searched e (sym (answers m used w l e .1))
 
 pub search-finds : SearchFinds

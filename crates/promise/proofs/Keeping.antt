@@ -17,8 +17,8 @@ use Rattle.chain.proofs.Chains.{few}
 use Rattle.journal.specs.Journals.{wellFormed, isHeld, isFull, appended, slotUsed}
 use Rattle.journal.proofs.Journals.{appended-well}
 use Rattle.journal.proofs.Records.{shape-is}
-use Rattle.edit.specs.declared.Answer.{Answer}
-use Rattle.edit.specs.declared.Answer.the-variants.{Done, Before, Refused}
+use Rattle.edit.specs.declared.EditAnswer.{EditAnswer}
+use Rattle.edit.specs.declared.EditAnswer.the-variants.{Done, Before, Refused}
 use Rattle.slots.specs.declared.State.the-variants.{Erased, Live}
 use Rattle.judge.specs.Judging.{versionOf}
 use Rattle.judge.proofs.Telling.{and-true}
@@ -80,7 +80,7 @@ can-exists m used n s e = has-tells Erased m n s (and-true (hasState Erased m n 
 still-same : (st : State) (out : edits.Outcome) → Still (st .map) (st .journal) out → next (st .used) (ofEdit out) ≡ st
 still-same st out s = λ i. record { map = s .map i; used = same (out .answer) (s .idle) i; journal = s .journal i }
   where
-    same : (a : Answer) → saysDone (edited a) ≡ false → lengthAfter (edited a) (st .used) ≡ st .used
+    same : (a : EditAnswer) → saysDone (edited a) ≡ false → lengthAfter (edited a) (st .used) ≡ st .used
     same (Done t l) e = absurd (never e)
     same (Before t l) e = refl
     same (Refused n p) e = refl

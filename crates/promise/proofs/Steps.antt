@@ -14,13 +14,13 @@ use Rattle.judge.specs.Judging.{versionOf}
 use Rattle.accept.specs.Verdicts.{verdict}
 use Rattle.judge.proofs.Telling.{and-true}
 use borrow.Author.Tests.{leb-true, le-leb, ne-eqb}
-use Rattle.journal.specs.declared.Look.{Look}
-use Rattle.journal.specs.declared.Look.the-variants.{Malformed, Held, New}
+use Rattle.journal.specs.declared.JournalLook.{JournalLook}
+use Rattle.journal.specs.declared.JournalLook.the-variants.{Malformed, Held, New}
 use Rattle.journal.specs.Journals.{looked, isFull, isHeld, appended, wellFormed}
 use Rattle.journal.proofs.Journals.{looked-new}
-use Rattle.edit.specs.declared.Answer.{Answer}
-use Rattle.edit.specs.declared.Answer.the-variants.{Done, Before, Refused}
-use Rattle.edit.specs.declared.Start.the-variants as starts
+use Rattle.edit.specs.declared.EditAnswer.{EditAnswer}
+use Rattle.edit.specs.declared.EditAnswer.the-variants.{Done, Before, Refused}
+use Rattle.edit.specs.declared.EditStart.the-variants as starts
 use Rattle.accept.specs.Slots.{slotIn, freeSlot}
 use Rattle.change.specs.Slots.{withSym, allowedFor, symFor}
 use Rattle.add.specs.Objects.{offeredGood, isObject}
@@ -37,7 +37,7 @@ pub record Still (m j : List ℕ) (out : Outcome) : Type 0 where
   pub journal : out .journal ≡ j
   pub idle : saysDone (edited (out .answer)) ≡ false
 
-still : (m j : List ℕ) (a : Answer) → saysDone (edited a) ≡ false → Still m j (saying m j a)
+still : (m j : List ℕ) (a : EditAnswer) → saysDone (edited a) ≡ false → Still m j (saying m j a)
 still m j a e = record { map = refl; journal = refl; idle = e }
 
 -- how an edit starts, in a map that is accepted
@@ -82,10 +82,10 @@ module _ (m : List ℕ) (used : ℕ) (j : List ℕ) (e kind s n : ℕ) (v : verd
   unfolding changed
   change-cases = rw (start-of m used j e n v) (go (looked j m n e) refl)
     where
-      abbrev-after : Look → Outcome
+      abbrev-after : JournalLook → Outcome
       abbrev-after l = after m j (λ n k t. repeatChange m used j kind s k t) (λ n. freshChange m used j e kind s (allowedFor kind m used n s) (symFor kind m s)) (afterLook m n l)
 
-      go : (l : Look) → looked j m n e ≡ l → Still m j (abbrev-after l) ⊎ DoneChange m used j e kind s n (abbrev-after l)
+      go : (l : JournalLook) → looked j m n e ≡ l → Still m j (abbrev-after l) ⊎ DoneChange m used j e kind s n (abbrev-after l)
       go Malformed q = inl (still m j (Refused 13 0) refl)
       go (Held k t) q = inl (repeat-still k t)
       go (New k) q = let h = looked-new j m n e k q in fresh-cases (h .1) (h .0 .number) (h .0 .well)
@@ -145,10 +145,10 @@ module _ (m : List ℕ) (used : ℕ) (j : List ℕ) (e : ℕ) (o : List ℕ) (n 
   unfolding added
   add-cases = rw (start-of m used j e n v) (go (looked j m n e) refl)
     where
-      then : Look → Outcome
+      then : JournalLook → Outcome
       then l = after m j (λ n k t. repeatAdd m used j o k t) (λ n. freshAdd m used j e o n) (afterLook m n l)
 
-      go : (l : Look) → looked j m n e ≡ l → Still m j (then l) ⊎ DoneAdd m used j e o n (then l)
+      go : (l : JournalLook) → looked j m n e ≡ l → Still m j (then l) ⊎ DoneAdd m used j e o n (then l)
       go Malformed q = inl (still m j (Refused 13 0) refl)
       go (Held k t) q = inl (repeat-add-still k t)
       go (New k) q = let h = looked-new j m n e k q in fresh-add-cases (h .1) (h .0 .number) (h .0 .well)

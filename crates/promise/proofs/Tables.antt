@@ -29,7 +29,7 @@ use Rattle.accept.proofs.Accepting.{accepted-tells, accepted-is}
 use Rattle.frame.proofs.Frame.{version-same}
 use Rattle.journal.specs.Journals.{recordIn, inUse, badRecord, wellFormed, holder, isHeld, isFull, appended}
 use Rattle.journal.proofs.Journals.{appended-well}
-use Rattle.edit.specs.declared.Answer.the-variants.{Done}
+use Rattle.edit.specs.declared.EditAnswer.the-variants.{Done}
 use Rattle.accept.specs.Slots.{slotIn, freeSlot}
 use Rattle.add.specs.Objects.{offeredGood, slotFor}
 use Rattle.add.specs.Adds.{newLength, addedMap, inBlock, added}

@@ -17,12 +17,12 @@ use Rattle.windows.specs.declared.Window.{Window}
 use Rattle.accept.specs.declared.Verdict.{Verdict}
 use Rattle.accept.specs.Verdicts as verdicts
 use Rattle.accept.specs.Verdicts.{verdict}
-use Rattle.find.specs.declared.Answer as find
+use Rattle.find.specs.declared.SearchAnswer.{SearchAnswer}
 use Rattle.find.specs.Searches as searches
 use Rattle.find.specs.Searches.{answerOf, listAfter, countOf, blocksOf, checkedLength}
 use Rattle.find.specs.Inputs.{inputAnswer, inputList}
 use Rattle.view.specs.declared.MapView.{MapView}
-use Rattle.edit.specs.declared.Answer as edit
+use Rattle.edit.specs.declared.EditAnswer.{EditAnswer}
 use Rattle.edit.specs.Edits.{Outcome, numberOf, placeOf, beforeOf, slotNo, lengthOf}
 use Rattle.add.specs.Adds.{added}
 use Rattle.change.specs.Changes.{removed, reinstated}
@@ -39,7 +39,7 @@ Check m used v = v ≡ verdict m used
 -- ---- the searches: the answer, and the list afterwards
 
 pub record Searched : Type 0 where
-  pub answer : find.Answer
+  pub answer : SearchAnswer
   pub list : List ℕ
 
 abbrev pub Search : List ℕ → ℕ → Window → List ℕ → Searched → Type 0
@@ -110,10 +110,10 @@ pub record OneAnswer : Type 0 where
   -- find
   pub search : (m : List ℕ) (used : ℕ) (w : Window) (l : List ℕ) → One (Search m used w l)
   pub search-input : (i l : List ℕ) → One (SearchInput i l)
-  pub search-number : (a : find.Answer) → One (λ r. r ≡ searches.numberOf a)
-  pub search-place : (a : find.Answer) → One (λ r. r ≡ searches.placeOf a)
-  pub search-count : (a : find.Answer) → One (λ r. r ≡ countOf a)
-  pub search-blocks : (a : find.Answer) → One (λ r. r ≡ blocksOf a)
+  pub search-number : (a : SearchAnswer) → One (λ r. r ≡ searches.numberOf a)
+  pub search-place : (a : SearchAnswer) → One (λ r. r ≡ searches.placeOf a)
+  pub search-count : (a : SearchAnswer) → One (λ r. r ≡ countOf a)
+  pub search-blocks : (a : SearchAnswer) → One (λ r. r ≡ blocksOf a)
   pub checked-length : (m : List ℕ) (used : ℕ) → One (λ r. r ≡ checkedLength m used)
   -- view
   pub view : (bytes : RefT (List ℕ)) (used : ℕ) → One (View bytes used)
@@ -123,11 +123,11 @@ pub record OneAnswer : Type 0 where
   pub add : (m : List ℕ) (used : ℕ) (j : List ℕ) (e : ℕ) (o : List ℕ) → One (Edit (added m used j e o))
   pub remove : (m : List ℕ) (used : ℕ) (j : List ℕ) (e s : ℕ) → One (Edit (removed m used j e s))
   pub reinstate : (m : List ℕ) (used : ℕ) (j : List ℕ) (e s : ℕ) → One (Edit (reinstated m used j e s))
-  pub edit-number : (a : edit.Answer) → One (λ r. r ≡ numberOf a)
-  pub edit-place : (a : edit.Answer) → One (λ r. r ≡ placeOf a)
-  pub edit-before : (a : edit.Answer) → One (λ r. r ≡ beforeOf a)
-  pub edit-slot : (a : edit.Answer) → One (λ r. r ≡ slotNo a)
-  pub edit-length : (a : edit.Answer) → One (λ r. r ≡ lengthOf a)
+  pub edit-number : (a : EditAnswer) → One (λ r. r ≡ numberOf a)
+  pub edit-place : (a : EditAnswer) → One (λ r. r ≡ placeOf a)
+  pub edit-before : (a : EditAnswer) → One (λ r. r ≡ beforeOf a)
+  pub edit-slot : (a : EditAnswer) → One (λ r. r ≡ slotNo a)
+  pub edit-length : (a : EditAnswer) → One (λ r. r ≡ lengthOf a)
   -- taffrail
   pub taffrail-check : (m : List ℕ) (used : ℕ) → One (CCheck m used)
   pub taffrail-search : (m : List ℕ) (used : ℕ) (left bottom right top : ℤ) (l : List ℕ) → One (CSearch m used left bottom right top l)

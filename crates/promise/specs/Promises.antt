@@ -18,10 +18,10 @@ use Rattle.records.specs.Headers.{indexHead}
 use Rattle.chain.specs.Chains.{block}
 use Rattle.judge.specs.Rules.{slotAt}
 use Rattle.judge.specs.Judging.{versionOf}
-use Rattle.find.specs.declared.Answer.the-variants.{Found, Short, Refused}
+use Rattle.find.specs.declared.SearchAnswer.the-variants.{Found, Short, Refused}
 use Rattle.find.specs.Searches.{In}
 use Rattle.journal.specs.Journals.{isHeld, recordsOf}
-use Rattle.edit.specs.declared.Answer.the-variants.{Before}
+use Rattle.edit.specs.declared.EditAnswer.the-variants.{Before}
 use Rattle.accept.specs.Slots.{slotIn}
 use Rattle.change.specs.Slots.{resym, objectSym}
 use Rattle.add.specs.Adds.{slotAdded}

@@ -31,11 +31,11 @@ use Rattle.accept.specs.declared.Verdict.{Verdict}
 use Rattle.accept.specs.declared.Verdict.the-variants as verdicts
 use Rattle.judge.specs.Judging.{versionOf}
 use Rattle.accept.specs.Verdicts.{verdict}
-use Rattle.find.specs.declared.Answer as find
+use Rattle.find.specs.declared.SearchAnswer.{SearchAnswer}
 use Rattle.find.specs.Searches.{answerOf, listAfter}
 use Rattle.journal.specs.Journals.{wellFormed}
-use Rattle.edit.specs.declared.Answer as edit
-use Rattle.edit.specs.declared.Answer.the-variants.{Done, Before, Refused}
+use Rattle.edit.specs.declared.EditAnswer.{EditAnswer}
+use Rattle.edit.specs.declared.EditAnswer.the-variants.{Done, Before, Refused}
 use Rattle.accept.specs.Slots.{slotIn}
 use Rattle.change.specs.Slots.{hasState, withSym, objectSym}
 use Rattle.edit.specs.Edits as edits
@@ -55,8 +55,8 @@ pub data Call : Type 0 where
   search : Window → List ℕ → Call
 
 pub data Said : Type 0 where
-  edited : edit.Answer → Said
-  searched : find.Answer → List ℕ → Said
+  edited : EditAnswer → Said
+  searched : SearchAnswer → List ℕ → Said
 
 pub record Outcome : Type 0 where
   pub said : Said

@@ -18,7 +18,7 @@ use Rattle.accept.specs.declared.Verdict.the-variants.{Accepted}
 use Rattle.judge.specs.Judging.{versionOf}
 use Rattle.accept.specs.Verdicts.{verdict}
 use Rattle.add.specs.Objects.{slotFor}
-use Rattle.edit.specs.declared.Answer.the-variants.{Done}
+use Rattle.edit.specs.declared.EditAnswer.the-variants.{Done}
 use Rattle.edit.specs.Edits.{Outcome}
 use Rattle.add.specs.Adds.{newLength, addedMap, added}
 

@@ -1,6 +1,6 @@
 // The search program: reads a window and then a map from standard input, and writes the blocks walked, the count found and a line for each slot found; or the
 // refusal. The search is `find`'s. What is here follows the links once more for the lines, with a test before every read.
-use find::Answer;
+use find::SearchAnswer;
 use libc::STDIN_FILENO;
 use libc::STDOUT_FILENO;
 use numbers::u32_at;
@@ -82,17 +82,17 @@ fn write_slots(m: &[u8], list: &[u32], count: usize) {
 }
 
 // What the program writes of an answer.
-fn write_answer(input: &[u8], list: &[u32], a: Answer) {
+fn write_answer(input: &[u8], list: &[u32], a: SearchAnswer) {
     match a {
-        Answer::Found { count, blocks } => {
+        SearchAnswer::Found { count, blocks } => {
             write_line(b"blocks ", blocks);
             write_line(b"found ", count);
             if Window::SIZE <= input.len() {
                 write_slots(&input[Window::SIZE..], list, count as usize);
             }
         }
-        Answer::Short { count: _ } => write_line(b"refused 9 at ", 0),
-        Answer::Refused { number, place } => {
+        SearchAnswer::Short { count: _ } => write_line(b"refused 9 at ", 0),
+        SearchAnswer::Refused { number, place } => {
             io::write_all(STDOUT_FILENO, b"refused ");
             io::print_decimal(STDOUT_FILENO, number as u64);
             write_line(b" at ", place);

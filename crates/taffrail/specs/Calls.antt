@@ -5,13 +5,13 @@ use Prim.Native.Nat.{ℕ}
 use mathlib.Core.Path.{_≡_}
 use lib.IntN.{ℤ}
 use Rattle.windows.specs.declared.Window.{Window}
-use Rattle.edit.specs.declared.Answer.{Answer}
+use Rattle.edit.specs.declared.EditAnswer.{EditAnswer}
 use Rattle.edit.specs.Edits.{numberOf, placeOf, beforeOf, slotNo, lengthOf}
 
 abbrev pub windowFrom : ℤ → ℤ → ℤ → ℤ → Window
 windowFrom l b r t = record { left = l; bottom = b; right = r; top = t }
 
-pub record Wrote (a : Answer) (number place before slot length : ℕ) : Type 0 where
+pub record Wrote (a : EditAnswer) (number place before slot length : ℕ) : Type 0 where
   pub is-number : number ≡ numberOf a
   pub is-place : place ≡ placeOf a
   pub is-before : before ≡ beforeOf a

@@ -56,7 +56,13 @@ pub extern "C" fn taffrail_search(
 }
 
 // What an edit answered goes to the out parameters.
-fn tell(a: edit::Answer, place: &mut u32, before: &mut u32, slot: &mut u32, length: &mut u32) -> u32
+fn tell(
+    a: edit::EditAnswer,
+    place: &mut u32,
+    before: &mut u32,
+    slot: &mut u32,
+    length: &mut u32,
+) -> u32
     ensures { λ r. ⌜ Wrote a r (now (place .exit)) (now (before .exit)) (now (slot .exit)) (now (length .exit)) ⌝ }
 {
     *place = edit::place(a);

@@ -349,7 +349,7 @@ fn call_search(map: &[u8], list: &mut [u32], d: Desk) {
 }
 
 // What an edit answered. The length that a done edit returns is the map's from then on.
-fn say_edit(map: &[u8], journal: &[u8], d: Desk, a: edit::Answer) -> Desk {
+fn say_edit(map: &[u8], journal: &[u8], d: Desk, a: edit::EditAnswer) -> Desk {
     say(b"edit ", edit::number(a));
     say(b" at ", edit::place(a));
     say(b" before ", edit::before(a));

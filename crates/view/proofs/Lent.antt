@@ -31,7 +31,7 @@ use denote.Triple.Spec.{tripleOf}
 use Rattle.windows.specs.declared.Window.{Window}
 use Rattle.windows.proofs.Window as P
 use Rattle.windows.proofs.Window.Laws as P′
-use Rattle.find.specs.declared.Answer.{Answer}
+use Rattle.find.specs.declared.SearchAnswer.{SearchAnswer}
 use Rattle.find.specs.Searches.{answerOf, listAfter}
 use Rattle.find.proofs.checked_length as checked-length
 use Rattle.find.proofs.search as search
@@ -51,7 +51,7 @@ module _ {M : Type 1} (𝓤 : URA M) (H : Heap 𝓤) (A : Atoms 𝓤) (mem : Mem
   abbrev pub FindIn : Contract 𝓤
   FindIn = tripleOf 𝓤 H A find-in.signature (find-in.spec 𝓤 H A mem run)
 
-abbrev pub Searched : List ℕ → ℕ → Window → List ℕ → Answer → List ℕ → Type 0
+abbrev pub Searched : List ℕ → ℕ → Window → List ℕ → SearchAnswer → List ℕ → Type 0
 Searched xs used w ys r zs = (r ≡ answerOf xs used w (length ys)) × (zs ≡ listAfter xs used w ys)
 
 abbrev pub lists : ℕ → ℕ → GName → List ℕ → RefT (List ℕ)

@@ -2,7 +2,7 @@
 use mathlib.Core.Path.{sym, ap, subst, _∙_}
 use denote.Ref.{now}
 use borrow.Author.Needs.{needs}
-use Rattle.accept.specs.declared.Opened.{Opened}
+use Rattle.accept.specs.declared.OpenedMap.{OpenedMap}
 use Rattle.accept.specs.Slots.{withFree}
 use Rattle.accept.specs.Opens.{afterOpened, Opens}
 use Rattle.accept.proofs.examine_opened.Statement.{statement}
@@ -16,12 +16,12 @@ judge-slots-requires c κs =
 returns : tie.Need-returns
 returns c =
     let a = c .before .before .before .before .before .args in
-    sym (ap (λ (x : Opened). withFree (now (a .m)) (afterOpened (now (a .m)) (a .used) x)) (c .before .o .given .1))
+    sym (ap (λ (x : OpenedMap). withFree (now (a .m)) (afterOpened (now (a .m)) (a .used) x)) (c .before .o .given .1))
 
 returns-2 : tie.Need-returns-2
 returns-2 c =
     let a = c .before .before .before .before .before .before .args in
-    c .judge-slots .ensures ∙ sym (ap (λ (x : Opened). withFree (now (a .m)) (afterOpened (now (a .m)) (a .used) x)) (c .before .before .o2 .given .1))
+    c .judge-slots .ensures ∙ sym (ap (λ (x : OpenedMap). withFree (now (a .m)) (afterOpened (now (a .m)) (a .used) x)) (c .before .before .o2 .given .1))
 
 pub examine-opened-spec : {M : Type 1} → statement M
 examine-opened-spec = tie.close (tie.spec (λ c. search needs) (λ c. search needs) judge-slots-requires returns returns-2)

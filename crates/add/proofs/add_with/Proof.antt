@@ -3,7 +3,7 @@ use mathlib.Core.Path.{_≡_, sym, _∙_}
 use native.Mathlib.Omega.{arith}
 use denote.Ref.{now}
 use Rattle.accept.proofs.Accepting.{accepted-tells}
-use Rattle.edit.specs.declared.Start.the-variants as starts
+use Rattle.edit.specs.declared.EditStart.the-variants as starts
 use Rattle.edit.specs.Edits.{startOf}
 use Rattle.edit.proofs.Edits.{blocks-fit, parts, start-held, start-new, start-records}
 use Rattle.add.proofs.Adding.{held-there, added-refused, added-held, added-new, repeat-keeps}

@@ -8,7 +8,7 @@ use Rattle.accept.specs.declared.Verdict.the-variants.{Accepted}
 use Rattle.accept.specs.Verdicts.{verdict}
 use Rattle.accept.proofs.Accepting.{Holds, accepted-tells}
 use Rattle.frame.proofs.Writes.{slot-lies}
-use Rattle.edit.specs.declared.Start.the-variants as starts
+use Rattle.edit.specs.declared.EditStart.the-variants as starts
 use Rattle.change.specs.declared.NewSym.the-variants.{Write}
 use Rattle.change.specs.NewSyms.{newSymFor}
 use Rattle.edit.specs.Edits.{startOf, Roomy, Known}

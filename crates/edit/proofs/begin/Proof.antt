@@ -12,7 +12,7 @@ use Rattle.accept.specs.Slots.{freeSlot}
 use Rattle.accept.proofs.Verdicts.{refused}
 use Rattle.accept.proofs.Slots.{plain, verdict-of, accepted-free}
 use Rattle.accept.proofs.Accepting.{Holds, accepted-tells}
-use Rattle.edit.specs.declared.Start.the-variants as starts
+use Rattle.edit.specs.declared.EditStart.the-variants as starts
 use Rattle.edit.proofs.Edits.{blocks-fit, order-ready, reach, ordered-by, start-refused, start-look}
 use borrow.Author.Needs.{needs}
 use Rattle.edit.proofs.begin.Statement.{statement}

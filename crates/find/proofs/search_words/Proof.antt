@@ -8,7 +8,7 @@ use borrow.Author.Needs.{needs}
 use lib.Seq.{sets}
 use Rattle.records.specs.Sizes.{mostBlocks}
 use Rattle.bits.specs.Bits.{onesIn, wordBits}
-use Rattle.accept.specs.declared.Judged.the-variants.{Good}
+use Rattle.accept.specs.declared.JudgedMap.the-variants.{Good}
 use Rattle.accept.specs.Verdicts.{slotsJudged}
 use Rattle.find.specs.Looks.{blockWords, Marked}
 use Rattle.find.specs.Searches.{liveIn, found}

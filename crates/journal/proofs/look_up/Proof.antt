@@ -5,7 +5,7 @@ use denote.Ref.{now}
 use borrow.Author.Tests.{le-leb, lt-leb, eq-eqb, ne-eqb, not-true, not-false}
 use Rattle.journal.specs.Journals.{looked}
 use Rattle.journal.specs.Passes.{judged}
-use Rattle.journal.specs.declared.Judged.the-variants.{Good}
+use Rattle.journal.specs.declared.JudgedJournal.the-variants.{Good}
 use Rattle.journal.proofs.Journals.{well-formed-parts}
 use Rattle.journal.proofs.Passes.{Sized, look-bad, look-count, look-rest, look-new, look-held}
 use borrow.Author.Needs.{needs}

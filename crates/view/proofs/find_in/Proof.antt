@@ -43,14 +43,14 @@ use denote.Triple.Walked.{says, Stays, stay-none, gave-slice, walkOf, goes-none,
 use denote.Triple.Clauses.{ensured, lasts}
 use denote.Exit.{yes}
 use Rattle.view.specs.declared.MapView.{MapView}
-use Rattle.find.specs.declared.Answer.{Answer}
+use Rattle.find.specs.declared.SearchAnswer.{SearchAnswer}
 use Rattle.windows.specs.declared.Window.{Window}
 use Rattle.view.proofs.MapView as T
 use Rattle.view.proofs.MapView.Laws as T′
 use Rattle.windows.proofs.Window as P
 use Rattle.windows.proofs.Window.Laws as P′
-use Rattle.find.proofs.Answer as S
-use Rattle.find.proofs.Answer.Laws as S′
+use Rattle.find.proofs.SearchAnswer as S
+use Rattle.find.proofs.SearchAnswer.Laws as S′
 use Rattle.find.proofs.search as search
 use Rattle.find.proofs.search.Symbol as search-def
 use Rattle.find.proofs.search.Symbol.{name as #find·search}
@@ -90,7 +90,7 @@ module _ {M : Type 1} (𝓤 : URA M) (H : Heap 𝓤) (A : Atoms 𝓤) (W : Given
   pane = P′.lowered w
 
   -- what is known of the answer and of the list afterwards
-  abbrev Known : Answer → List ℕ → Type 0
+  abbrev Known : SearchAnswer → List ℕ → Type 0
   Known = Searched (now (d .bytes)) (d .used) w ys
 
   abbrev Arg : Type 0
@@ -140,7 +140,7 @@ module _ {M : Type 1} (𝓤 : URA M) (H : Heap 𝓤) (A : Atoms 𝓤) (W : Given
       -- [what is passed; what window owns; what the view owns; the tokens]
       move ! (3 ∷ 0 ∷ []) $ use2 W (raw (Search 𝓤 H A mem run .pre to)) asked $ frame ! $ move ! (1 ∷ []) $ frame ! $ done !)
 
-  exits : (r : Answer) (u : Val) (zs : List ℕ) → Known r zs → length zs ≡ length ys
+  exits : (r : SearchAnswer) (u : Val) (zs : List ℕ) → Known r zs → length zs ≡ length ys
       → ent 𝓤 (⋆ 𝓤 H A (‵ (S.the-row .own r (u ∷ [])) ∷ tokens 𝓤 κ q κ′ q′ ∷ ‵ (finally u32 γ zs) ∷ ‵ Own ∷ ‵ (OwnWindow w) ∷ [])) (Post u)
   exits r u zs e l =
       qed W (‵ (S.the-row .own r (u ∷ [])) ∷ tokens 𝓤 κ q κ′ q′ ∷ ‵ (finally u32 γ zs) ∷ ‵ Own ∷ ‵ (OwnWindow w) ∷ []) ∵
@@ -163,7 +163,7 @@ module _ {M : Type 1} (𝓤 : URA M) (H : Heap 𝓤) (A : Atoms 𝓤) (W : Given
         move ! (16 ∷ []) $ use1 W (raw (Search 𝓤 H A mem run .pre to) ⊛ ‵ Own ⊛ ‵ (OwnWindow w)) (apart (wt .1 .1 .0 .fits)) $ split ! $ move ! (1 ∷ []) $ split ! $ move ! (2 ∷ []) $
         -- [what the callee asks; what the view owns; what window owns; _7; …]
         calls-at ! fm (Search 𝓤 H A mem run) known to (and-then ! (load ! (from ! (stop !)) (look ! 9 refl)) (and-then ! (load ! (from ! (stop !)) (look ! 7 refl)) (and-then ! (load ! (from ! (stop !)) (look ! 13 refl)) (and-then ! (load ! (from ! (stop !)) (look ! 3 refl)) (no-more !))))) (λ u.
-        use1 W (later (some (λ (r : Answer). (tokens 𝓤 κ q κ′ q′ ⊛ ‵ (S.the-row .own r (u ∷ []))) ⊛ raw (ensured 𝓤 H A search.ended (search.clauses 𝓤 H A mem run) κs a′ tt r)))) (id⊢ 𝓤 _) $ await ! tt $ pick ! (λ r.
+        use1 W (later (some (λ (r : SearchAnswer). (tokens 𝓤 κ q κ′ q′ ⊛ ‵ (S.the-row .own r (u ∷ []))) ⊛ raw (ensured 𝓤 H A search.ended (search.clauses 𝓤 H A mem run) κs a′ tt r)))) (id⊢ 𝓤 _) $ await ! tt $ pick ! (λ r.
         -- what `search` ensures, at some last list
         split ! $ move ! (1 ∷ []) $ use1 W (some (λ (zs : Unit {0} × (Unit {0} × (Unit {0} × (List ℕ × Unit {0})))). ‵ (lasts search.ended κs a′ zs) ⊛ raw (fact 𝓤 (Known r (zs .1 .1 .1 .0))))) (id⊢ 𝓤 _) $ pick ! (λ zs.
         split ! $ move ! (1 ∷ []) $ heard ! (Known r (zs .1 .1 .1 .0)) (λ e. fsplit ! $ drop ! $ fsplit ! $ drop ! $ fsplit ! $ drop ! $ fsplit ! $ fsplit ! $ move ! (1 ∷ []) $ feqL ! (λ l.

@@ -41,14 +41,14 @@ use denote.Triple.Clauses.{ensured, lasts}
 use denote.Exit.{yes}
 use Rattle.find.specs.Searches.{checkedLength}
 use Rattle.view.specs.declared.MapView.{MapView}
-use Rattle.find.specs.declared.Answer.{Answer}
+use Rattle.find.specs.declared.SearchAnswer.{SearchAnswer}
 use Rattle.windows.specs.declared.Window.{Window}
 use Rattle.view.proofs.MapView as T
 use Rattle.view.proofs.MapView.Laws as T′
 use Rattle.windows.proofs.Window as P
 use Rattle.windows.proofs.Window.Laws as P′
-use Rattle.find.proofs.Answer as S
-use Rattle.find.proofs.Answer.Laws as S′
+use Rattle.find.proofs.SearchAnswer as S
+use Rattle.find.proofs.SearchAnswer.Laws as S′
 use Rattle.view.proofs.view as view
 use Rattle.view.proofs.view.Symbol as view-def
 use Rattle.view.proofs.view.Symbol.{name as #view·view}
@@ -93,7 +93,7 @@ module _ {M : Type 1} (𝓤 : URA M) (H : Heap 𝓤) (A : Atoms 𝓤) (W : Given
   abbrev Made : MapView → Type 0
   Made r = (r .bytes ≡ y) × (r .used ≡ checkedLength (now y) n)
 
-  abbrev Known : Answer → List ℕ → Type 0
+  abbrev Known : SearchAnswer → List ℕ → Type 0
   Known = Searched (now y) (checkedLength (now y) n) w ys
 
   abbrev Arg : Type 0
@@ -147,7 +147,7 @@ module _ {M : Type 1} (𝓤 : URA M) (H : Heap 𝓤) (A : Atoms 𝓤) (W : Given
       -- [the slice's token; true; what is passed; the list's token]
       move ! (3 ∷ 1 ∷ []) $ join ! $ move ! (1 ∷ 0 ∷ []) $ join ! $ join ! $ frame ! $ done !
 
-  exits : (r : Answer) (u : Val) (zs : List ℕ) → Known r zs → length zs ≡ length ys
+  exits : (r : SearchAnswer) (u : Val) (zs : List ℕ) → Known r zs → length zs ≡ length ys
       → ent 𝓤 (⋆ 𝓤 H A (‵ (S.the-row .own r (u ∷ [])) ∷ tokens 𝓤 κ q κ′ q′ ∷ ‵ (finally u32 γ zs) ∷ ‵ (OwnBytes κ y) ∷ ‵ (OwnWindow w) ∷ [])) (Post u)
   exits r u zs e l =
       qed W (‵ (S.the-row .own r (u ∷ [])) ∷ tokens 𝓤 κ q κ′ q′ ∷ ‵ (finally u32 γ zs) ∷ ‵ (OwnBytes κ y) ∷ ‵ (OwnWindow w) ∷ []) ∵
@@ -177,7 +177,7 @@ module _ {M : Type 1} (𝓤 : URA M) (H : Heap 𝓤) (A : Atoms 𝓤) (W : Given
         -- `find_in`. [what it asks; what bytes owns; what window owns; _7; …]
         move ! (0 ∷ 1 ∷ 4 ∷ []) $ use3 W (raw (FindIn 𝓤 H A mem run .pre (to-find-in u))) (goes-find-in u) $
         calls-at ! fm (FindIn 𝓤 H A mem run) known-find-in (to-find-in u) (and-then ! (load ! (from ! (stop !)) (look ! 7 refl)) (and-then ! (load ! (from ! (stop !)) (look ! 11 refl)) (and-then ! (load ! (from ! (stop !)) (look ! 3 refl)) (no-more !)))) (λ u′.
-        use1 W (later (some (λ (r : Answer). (tokens 𝓤 κ q κ′ q′ ⊛ ‵ (S.the-row .own r (u′ ∷ []))) ⊛ raw (ensured 𝓤 H A find-in.ended (find-in.clauses 𝓤 H A mem run) κs a′ tt r)))) (id⊢ 𝓤 _) $ await ! tt $ pick ! (λ r.
+        use1 W (later (some (λ (r : SearchAnswer). (tokens 𝓤 κ q κ′ q′ ⊛ ‵ (S.the-row .own r (u′ ∷ []))) ⊛ raw (ensured 𝓤 H A find-in.ended (find-in.clauses 𝓤 H A mem run) κs a′ tt r)))) (id⊢ 𝓤 _) $ await ! tt $ pick ! (λ r.
         split ! $ move ! (1 ∷ []) $ use1 W (some (λ (zs : Unit {0} × (Unit {0} × (List ℕ × Unit {0}))). ‵ (lasts find-in.ended κs a′ zs) ⊛ raw (fact 𝓤 (Known r (zs .1 .1 .0))))) (id⊢ 𝓤 _) $ pick ! (λ zs.
         split ! $ move ! (1 ∷ []) $ heard ! (Known r (zs .1 .1 .0)) (λ e. fsplit ! $ drop ! $ fsplit ! $ drop ! $ fsplit ! $ fsplit ! $ move ! (1 ∷ []) $ feqL ! (λ l.
         -- [the last list; true; the tokens and the result; what bytes owns; what window owns; _7; …]

@@ -16,7 +16,7 @@ use Rattle.slots.specs.Slots.{stateOf, sameState}
 use Rattle.chain.specs.Chains.{place}
 use Rattle.chain.specs.Cells.{cellIn}
 use Rattle.chain.proofs.Chains.{walked-pass}
-use Rattle.accept.specs.declared.Examined.the-variants.{Accepted}
+use Rattle.accept.specs.declared.ExaminedMap.the-variants.{Accepted}
 use Rattle.judge.specs.Rules.{indexRule, touches}
 use Rattle.judge.specs.Judging.{versionOf, badSlot, noLen}
 use Rattle.accept.specs.Slots.{slotIn, freeSlot, firstFree, freeIn}

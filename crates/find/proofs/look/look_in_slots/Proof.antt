@@ -8,7 +8,7 @@ use Rattle.numbers.proofs.Below.{First, first-law}
 use Rattle.records.specs.Sizes.{mostBlocks, slotSize}
 use Rattle.chain.specs.Cells.{cellIn}
 use Rattle.chain.proofs.Chains.{walked-pass}
-use Rattle.accept.specs.declared.Judged.the-variants.{Bad}
+use Rattle.accept.specs.declared.JudgedMap.the-variants.{Bad}
 use Rattle.judge.specs.Rules.{indexRule}
 use Rattle.judge.proofs.Judging.{same-touch}
 use Rattle.judge.proofs.Rules.{most-blocks}
