@@ -106,6 +106,32 @@ module _ {m m′ : List ℕ} {used used′ n n′ s : ℕ} (h : Holds m used n) 
       let o = object-kept h (w .change) (good-of h d e) in
       rw (w .old d l ne, version-same (w .change)) (λ i. record { slot = slotIn m d; object = o i })
 
+-- ---- a slot that can be reinstated: it is erased, its object's Sym is not 0, and it is good with that Sym
+
+-- it exists
+pub can-exists : (m : List ℕ) (used n s : ℕ) → canReinstate m used n s ≡ true → s < 256 * n
+unfolding canReinstate
+can-exists m used n s e = has-tells Erased m n s (and-true (hasState Erased m n s) _ e .0) .0
+
+module _ {m : List ℕ} {used n : ℕ} (h : Holds m used n) (bytes : Bytes m) (s : ℕ) (can : canReinstate m used n s ≡ true) where
+  can-parts : (hasState Erased m n s ≡ true) × (objectSym m s ≡ 0 → ⊥) × (isAccepted (verdict (withSym m s (objectSym m s)) used) ≡ true)
+  unfolding canReinstate
+  can-parts =
+      let a = and-true (hasState Erased m n s) _ can in
+      let b = and-true (not (eqb (objectSym m s) 0)) (isAccepted (verdict (withSym m s (objectSym m s)) used)) (a .1) in
+      (a .0, eqb-false (objectSym m s) 0 (not-true (eqb (objectSym m s) 0) (b .0)), b .1)
+
+  can-len : slotIn m s .len ≡ 0 → ⊥
+  can-len = len-some Erased (slotIn m s) (has-tells Erased m n s (can-parts .0) .1) not-free
+    where
+      not-free : Erased ≡ Free → ⊥
+      not-free q = let z : _≡_ {A = ℕ} 0 1 = cc in omega arith
+
+  pub can-good : GoodSlot (touches m n) m used (versionOf m) (resym (slotIn m s) (objectSym m s))
+  can-good =
+      slot-tells (touches m n) m used (versionOf m) (resym (slotIn m s) (objectSym m s))
+      (sym (accepted-good h s (can-exists m used n s can) (objectSym m s) (object-sym-fits h bytes s) (can-parts .1) can-len) ∙ can-parts .2)
+
 -- ---- the edit's own slot
 
 module _ {m m′ : List ℕ} {used used′ n n′ s : ℕ} (h : Holds m used n) (w : Moved m m′ used used′ n n′ s) where
@@ -113,24 +139,11 @@ module _ {m m′ : List ℕ} {used used′ n n′ s : ℕ} (h : Holds m used n) 
   pub removed-dead : slotIn m′ s ≡ resym (slotIn m s) 0 → hasState Live m′ n′ s ≡ false
   removed-dead e = rw (has-live m′ n′ s (w .here), e) (state-unmarked (resym (slotIn m s) 0) refl)
 
-  -- reinstated: good with its object's Sym, live afterwards, with the object as it lay
+  -- reinstated: live afterwards, with the object as it lay
   module _ (bytes : Bytes m) (can : canReinstate m used n s ≡ true) (e : slotIn m′ s ≡ resym (slotIn m s) (objectSym m s)) where
-    parts : (hasState Erased m n s ≡ true) × (objectSym m s ≡ 0 → ⊥) × (isAccepted (verdict (withSym m s (objectSym m s)) used) ≡ true)
-    unfolding canReinstate
-    parts =
-        let a = and-true (hasState Erased m n s) _ can in
-        let b = and-true (not (eqb (objectSym m s) 0)) (isAccepted (verdict (withSym m s (objectSym m s)) used)) (a .1) in
-        (a .0, eqb-false (objectSym m s) 0 (not-true (eqb (objectSym m s) 0) (b .0)), b .1)
-
-    len : slotIn m s .len ≡ 0 → ⊥
-    len = len-some Erased (slotIn m s) (has-tells Erased m n s (parts .0) .1) not-free
-      where
-        not-free : Erased ≡ Free → ⊥
-        not-free q = let z : _≡_ {A = ℕ} 0 1 = cc in omega arith
-
     pub erased-dead : hasState Live m n s ≡ false
     erased-dead =
-        let a = has-tells Erased m n s (parts .0) in
+        let a = has-tells Erased m n s (can-parts h bytes s can .0) in
         rw (has-live m n s (a .0)) (go (stateOf (slotIn m s)) (a .1))
       where
         go : (k : State) → sameState Erased k ≡ true → isLive k ≡ false
@@ -138,18 +151,13 @@ module _ {m m′ : List ℕ} {used used′ n n′ s : ℕ} (h : Holds m used n) 
         go Erased q = refl
         go Live q = absurd (never (sym q))
 
-    revived : GoodSlot (touches m n) m used (versionOf m) (resym (slotIn m s) (objectSym m s))
-    revived =
-        slot-tells (touches m n) m used (versionOf m) (resym (slotIn m s) (objectSym m s))
-        (sym (accepted-good h s (has-tells Erased m n s (parts .0) .0) (objectSym m s) (object-sym-fits h bytes s) (parts .1) len) ∙ parts .2)
-
     pub reinstated-live : hasState Live m′ n′ s ≡ true
-    reinstated-live = rw (has-live m′ n′ s (w .here), e, state-live (resym (slotIn m s) (objectSym m s)) len (parts .1))
+    reinstated-live = rw (has-live m′ n′ s (w .here), e, state-live (resym (slotIn m s) (objectSym m s)) (can-len h bytes s can) (can-parts h bytes s can .1))
 
     pub reinstated-content : contentOf m′ s ≡ record { slot = resym (slotIn m s) (objectSym m s); object = contentOf m s .object }
     unfolding contentOf
     reinstated-content =
-        let o = object-kept h (w .change) revived in
+        let o = object-kept h (w .change) (can-good h bytes s can) in
         rw (e, version-same (w .change)) (λ i. record { slot = resym (slotIn m s) (objectSym m s); object = o i })
 
   -- added

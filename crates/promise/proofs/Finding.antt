@@ -23,7 +23,7 @@ use Rattle.promise.specs.Runs.{Call, add, searched, step, isLiveIn, cont
 use Rattle.promise.specs.Promises.{ByOne, SearchSays, SearchFinds, AddedIsFound}
 use Rattle.promise.proofs.Keeping.{step-good}
 use Rattle.promise.proofs.Promises.{blocks-of}
-use Rattle.promise.proofs.Bridge.{edit-by-edit}
+use Rattle.promise.proofs.ByEdit.{edit-by-edit}
 
 found-is : (m : List ℕ) (n : ℕ) (w : Window) (s : ℕ) → In s (found m n w) ↔ ((hasState Live m n s ≡ true) × (meetsWindow (slotIn m s) w ≡ true))
 unfolding slotIn hasState wantedAt

@@ -5,7 +5,8 @@ use mathlib.Core.Path.{_≡_, refl, sym, ap, _∙_}
 use mathlib.Core.Logic.{_⊎_, inl, inr, ⊎-elim}
 use mathlib.Core.List.{List}
 use native.Mathlib.Omega.{arith}
-use lib.ListN.{length, getD}
+use lib.ListN.{length, getD, take}
+use lib.Seq.{length-take-le}
 use Rattle.numbers.specs.Bytes.{Bytes}
 use Rattle.numbers.proofs.Below.{never}
 use Rattle.windows.specs.declared.Window.{Window}
@@ -13,6 +14,7 @@ use Rattle.records.specs.Journals.{recordFor, shapeGood}
 use Rattle.records.proofs.Journals.{RecordFits}
 use Rattle.accept.proofs.Accepting.{Holds, accepted-tells, accepted-is}
 use Rattle.frame.proofs.Writes.{pass-of}
+use Rattle.frame.proofs.Behind.{SameMap, verdict-same}
 use Rattle.chain.proofs.Chains.{few}
 use Rattle.journal.specs.Journals.{wellFormed, isHeld, isFull, appended, slotUsed}
 use Rattle.journal.proofs.Journals.{appended-well}
@@ -29,9 +31,10 @@ use Rattle.change.proofs.Syms.{has-tells}
 use Rattle.edit.specs.Edits as edits
 use Rattle.change.specs.Changes.{changed}
 use Rattle.add.specs.Adds.{added, newLength, addedMap, slotAdded}
-use Rattle.promise.specs.Runs.{State, Call, add, remove, reinstate, search, edited, Outcome, outcome, ofEdit, lengthAfter, next, step, saysDone, isDone, recordOf, Map, applied, Good, Sent}
-use Rattle.promise.specs.Promises.{mapOf}
+use Rattle.promise.specs.Runs.{State, Call, add, remove, reinstate, search, edited, Outcome, outcome, ofEdit, lengthAfter, next, step, saysDone, isDone, recordOf, mapOf, grown, Event, made, handed, withBuffer, turn, applied, Good, Sent, HoldsMap, May}
 use Rattle.promise.proofs.Bytes.{appended-bytes, sym-bytes, added-bytes}
+use Rattle.promise.proofs.Contents.{can-exists}
+use Rattle.promise.proofs.Whole.{same-of, whole, sym-whole, added-whole, revived-whole, well-same}
 use Rattle.promise.proofs.Steps.{Still, DoneChange, DoneAdd, change-cases, add-cases}
 use Rattle.promise.proofs.Moves.{Moved, moved-use, moved-here, object-sym-fits, changed-slot, remove-moved, reinstate-moved, blocksAfter, added-grown, free-before, added-moved}
 
@@ -68,22 +71,12 @@ record-good : (e kind s : ℕ) → e < 2 ^ 32 → (e ≡ 0 → ⊥) → 1 ≤ ki
 record-good e kind s f ne a b g =
     (record { number = f; kind = omega arith; slot = g; zeros = omega arith }, shape-is (recordFor e kind s) (record { number = ne; least = a; most = b; zeros = refl }))
 
-map-ext : {m m′ : List ℕ} {used used′ : ℕ} → m ≡ m′ → used ≡ used′ → _≡_ {A = Map} (record { map = m; used = used }) (record { map = m′; used = used′ })
-map-ext a b = λ i. record { map = a i; used = b i }
-
--- a slot that can be reinstated exists
-can-exists : (m : List ℕ) (used n s : ℕ) → canReinstate m used n s ≡ true → s < 256 * n
-unfolding canReinstate
-can-exists m used n s e = has-tells Erased m n s (and-true (hasState Erased m n s) _ e .0) .0
-
 -- a call that is not done leaves the state
 still-same : (st : State) (out : edits.Outcome) → Still (st .map) (st .journal) out → next (st .used) (ofEdit out) ≡ st
 still-same st out s = λ i. record { map = s .map i; used = same (out .answer) (s .idle) i; journal = s .journal i }
   where
     same : (a : EditAnswer) → saysDone (edited a) ≡ false → lengthAfter (edited a) (st .used) ≡ st .used
-    same (Done t l) e = absurd (never e)
-    same (Before t l) e = refl
-    same (Refused n p) e = refl
+    same a e = rw e
 
 pub record Idle (st : State) (c : Call) : Type 0 where
   pub same : step st c ≡ st
@@ -98,13 +91,16 @@ pub idle-search : (st : State) (w : Window) (l : List ℕ) → Idle st (search w
 unfolding step isDone
 idle-search st w l = record { same = refl; idle = refl }
 
+pub holds-of : {st : State} (g : Good st) → Holds (st .map) (st .used) (g .blocks)
+holds-of {st} g = accepted-tells (st .map) (st .used) (g .blocks) (g .accepted)
+
 module _ {st : State} (g : Good st) where
   h : Holds (st .map) (st .used) (g .blocks)
-  h = accepted-tells (st .map) (st .used) (g .blocks) (g .accepted)
+  h = holds-of g
 
   -- a removal or a reinstatement, by its kind
   module _ (c : Call) (e kind s : ℕ) (is : outcome st c ≡ ofEdit (changed (st .map) (st .used) (st .journal) e kind s)) (rec : recordOf c s ≡ recordFor e kind s)
-      (applies : applied c (mapOf st) ≡ record { map = withSym (st .map) s (symFor kind (st .map) s); used = st .used })
+      (applies : allowedFor kind (st .map) (st .used) (g .blocks) s ≡ true → take (st .used) (withSym (st .map) s (symFor kind (st .map) s)) ≡ applied c (mapOf st))
       (effects : allowedFor kind (st .map) (st .used) (g .blocks) s ≡ true → Effect c (st .map) (st .used) (g .blocks) (withSym (st .map) s (symFor kind (st .map) s)) s)
       (least : 1 ≤ kind) (most : kind ≤ 3) (fits : e < 2 ^ 32)
       (moves : allowedFor kind (st .map) (st .used) (g .blocks) s ≡ true → Moved (st .map) (withSym (st .map) s (symFor kind (st .map) s)) (st .used) (st .used) (g .blocks) (g .blocks) s) where
@@ -129,7 +125,7 @@ module _ {st : State} (g : Good st) where
           shape = rw rec (r .1);
           journal = rw (rec, is) (d .journal);
           bytes = rw map (sym-bytes (st .map) s (symFor kind (st .map) s) (g .map-bytes));
-          applies = map-ext map len ∙ sym applies;
+          applies = rw (len, map) (applies (d .allowed));
           effect = rw map (effects (d .allowed));
         }
 
@@ -142,9 +138,9 @@ module _ {st : State} (g : Good st) where
 
   -- an add
   module _ (e : ℕ) (o : List ℕ) (fits : e < 2 ^ 32) (bytes : Bytes o) where
-    add-applies : applied (add e o) (mapOf st) ≡ record { map = addedMap (st .map) (st .used) (g .blocks) o; used = newLength (st .map) (st .used) (g .blocks) o }
+    add-applies : applied (add e o) (mapOf st) ≡ grown (mapOf st) (g .blocks) o
     unfolding applied
-    add-applies = rw (g .accepted)
+    add-applies = rw (length-take-le (st .used) (st .map) (h .room), verdict-same (whole h), g .accepted)
 
     did-add : DoneAdd (st .map) (st .used) (st .journal) e o (g .blocks) (added (st .map) (st .used) (st .journal) e o) → Did st (add e o) (g .blocks)
     unfolding step
@@ -166,7 +162,7 @@ module _ {st : State} (g : Good st) where
           shape = r .1;
           journal = d .journal;
           bytes = rw (d .map) (added-bytes (st .map) (st .used) (g .blocks) o (g .map-bytes) bytes);
-          applies = map-ext (d .map) len ∙ sym add-applies;
+          applies = rw (len, d .map) (added-whole h o (d .fits)) ∙ sym add-applies;
           effect = rw (d .map) (free-before h o bytes (d .offered) (d .limit) (d .fits), gr .new, d .offered, gr .stored);
         }
 
@@ -176,8 +172,8 @@ module _ {st : State} (g : Good st) where
   -- every call: it is not done and changes nothing, or it is done
   pub call-cases : (c : Call) → Sent c → Idle st c ⊎ Did st c (g .blocks)
   call-cases (add e o) a = add-step e o (a .0) (a .1)
-  call-cases (remove e s) a = change-step (remove e s) e 2 s refl refl (unfold applied in refl) (λ k. (refl, k, changed-slot h (g .map-bytes) s (has-tells Live (st .map) (g .blocks) s k .0) 0 (omega arith))) (omega arith) (omega arith) (a .0) (λ k. remove-moved h (g .map-bytes) s k)
-  call-cases (reinstate e s) a = change-step (reinstate e s) e 3 s refl refl (unfold applied in refl) (λ k. (refl, k, changed-slot h (g .map-bytes) s (can-exists (st .map) (st .used) (g .blocks) s k) (objectSym (st .map) s) (object-sym-fits h (g .map-bytes) s))) (omega arith) (omega arith) (a .0) (λ k. reinstate-moved h (g .map-bytes) s k)
+  call-cases (remove e s) a = change-step (remove e s) e 2 s refl refl (λ k. unfold applied in sym-whole h s (has-tells Live (st .map) (g .blocks) s k .0) 0) (λ k. (refl, k, changed-slot h (g .map-bytes) s (has-tells Live (st .map) (g .blocks) s k .0) 0 (omega arith))) (omega arith) (omega arith) (a .0) (λ k. remove-moved h (g .map-bytes) s k)
+  call-cases (reinstate e s) a = change-step (reinstate e s) e 3 s refl refl (λ k. unfold applied in revived-whole h (g .map-bytes) s k) (λ k. (refl, k, changed-slot h (g .map-bytes) s (can-exists (st .map) (st .used) (g .blocks) s k) (objectSym (st .map) s) (object-sym-fits h (g .map-bytes) s))) (omega arith) (omega arith) (a .0) (λ k. reinstate-moved h (g .map-bytes) s k)
   call-cases (search w l) a = inl (idle-search st w l)
 
 -- what is done keeps the state good
@@ -196,3 +192,23 @@ did-good {st} {c} {n} g d =
 
 pub step-good : {st : State} → Good st → (c : Call) → Sent c → Good (step st c)
 step-good g c a = ⊎-elim (λ i. rw (i .same) g) (λ d. did-good g d) (call-cases g c a)
+
+-- ---- the map in another buffer
+
+module _ {st : State} (g : Good st) {b : List ℕ} (holds : HoldsMap st b) where
+  pub handed-same : SameMap (st .used) (st .map) b
+  handed-same = same-of (st .used) (st .map) b (holds-of g .room) holds
+
+  unfoldable pub handed-good : Bytes b → Good (withBuffer st b)
+  handed-good bytes =
+      record {
+        blocks = g .blocks;
+        accepted = verdict-same handed-same ∙ g .accepted;
+        well = well-same handed-same (holds-of g) (st .journal) ∙ g .well;
+        map-bytes = bytes;
+        journal-bytes = g .journal-bytes;
+      }
+
+pub turn-good : {st : State} → Good st → (x : Event) → May st x → Good (turn st x)
+turn-good g (made c) a = step-good g c a
+turn-good g (handed b) a = handed-good g (a .1) (a .0)

@@ -3,9 +3,13 @@
 --     Bytes        a buffer of bytes stays one; a slot's fields are its bytes; an unused record's are zero
 --     Moves        what a done edit does to the map, for the three edits alike
 --     Contents     live slots and their contents across a done edit
+--     Whole        the map as its own bytes, and in another buffer
 --     Keeping      a call keeps a good state good
 --     Promises     the promises over runs
---     Bridge       edit by edit, contents as bytes, contents that stay, the footbridge
+--     ByEdit       edit by edit, contents as bytes
+--     Dormant      what stays of a slot that was live
+--     Repeats      the exact repeat of a done edit
+--     Bridge       the footbridge
 --     Finding      what a search finds
 --     Answers      one answer each
 --     Tables       the worked examples
@@ -14,8 +18,12 @@ pub mod Steps
 pub mod Bytes
 pub mod Moves
 pub mod Contents
+pub mod Whole
 pub mod Keeping
 pub mod Promises
+pub mod ByEdit
+pub mod Dormant
+pub mod Repeats
 pub mod Bridge
 pub mod Finding
 pub mod Answers

@@ -13,25 +13,23 @@ use Rattle.chain.specs.Chains.{block}
 use Rattle.chain.proofs.Chains.{disjoint, few, walked-end}
 use Rattle.judge.specs.Rules.{indexRule}
 use Rattle.accept.specs.Verdicts.{verdict}
-use Rattle.accept.proofs.Accepting.{Holds, accepted-tells, accepted-is}
+use Rattle.accept.proofs.Accepting.{accepted-is}
 use Rattle.frame.proofs.Writes.{pass-of}
+use Rattle.frame.proofs.Behind.{verdict-same, block-same}
 use Rattle.find.specs.Searches.{In}
 use Rattle.journal.specs.Journals.{isHeld, holder, recordIn, recordsOf}
 use Rattle.journal.proofs.Records.{length-recordsOf}
 use Rattle.journal.proofs.Journals.{well-formed-tells, room-of, recordsOf-appended, length-appended, appended-keeps, appended-record-kept, appended-holds}
-use Rattle.promise.specs.Runs.{State, Call, add, remove, reinstate, search, outcome, step, run, slotSaid, isDone, doneIn, recordsIn, recordOf, blocksIn, blocksOf, appliedAll, Good, Sent, AllSent}
-use Rattle.promise.specs.Promises.{StaysGood, Ends, IndexEnds, SlotNumbersStay, mapOf, AppliedOnce, JournalGrows, RestZero, editNumber, NeverActsAgain, numbersIn, numbersOf, Once, NumbersOnce, NothingElse}
+use Rattle.promise.specs.Runs.{State, Call, add, remove, reinstate, search, outcome, step, Event, made, handed, withBuffer, turn, run, slotSaid, isDone, doneIn, recordsIn, recordOf, blocksIn, blocksOf, mapOf, appliedAll, Good, Sent, HoldsMap, May, Fair}
+use Rattle.promise.specs.Promises.{StaysGood, Ends, IndexEnds, SlotNumbersStay, AppliedOnce, JournalGrows, RestZero, editNumber, NeverActsAgain, numbersIn, numbersOf, Once, NumbersOnce, NothingElse}
 use Rattle.promise.proofs.Bytes.{zero-record}
 use Rattle.promise.proofs.Steps.{change-idle, add-idle}
-use Rattle.promise.proofs.Keeping.{Did, Idle, idle-of, idle-search, call-cases, step-good}
+use Rattle.promise.proofs.Keeping.{Did, Idle, idle-of, idle-search, holds-of, call-cases, step-good, handed-same, turn-good}
 
 pub stays-good : StaysGood
 unfolding run
 stays-good st [] g a = g
-stays-good st (c ∷ cs) g a = stays-good (step st c) cs (step-good g c (a .0)) (a .1)
-
-pub holds-of : {st : State} (g : Good st) → Holds (st .map) (st .used) (g .blocks)
-holds-of {st} g = accepted-tells (st .map) (st .used) (g .blocks) (g .accepted)
+stays-good st (x ∷ xs) g a = stays-good (turn st x) xs (turn-good g x (a .0)) (a .1)
 
 pub blocks-of : {st : State} (g : Good st) → blocksIn (st .map) (st .used) ≡ g .blocks
 blocks-of g = ap blocksOf (g .accepted)
@@ -47,9 +45,9 @@ good-ends {st} g =
     }
 
 pub index-ends : IndexEnds
-index-ends st cs g a = good-ends (stays-good st cs g a)
+index-ends st xs g a = good-ends (stays-good st xs g a)
 
--- ---- one call, for what grows along a run
+-- ---- one event, for what grows along a run
 
 -- the index blocks: no fewer, and the old ones where they were
 record Longer (st st′ : State) : Type 0 where
@@ -66,12 +64,22 @@ longer-step {st} g c a =
     record { upto = omega (arith, e, f, d .moved .change .upto); blocks = λ k l. d .moved .change .blocks k (rw e at l) })
     (call-cases g c a)
 
+longer-handed : {st : State} (g : Good st) {b : List ℕ} → HoldsMap st b → Longer st (withBuffer st b)
+longer-handed {st} g {b} holds =
+    let s = handed-same g holds in
+    let e : blocksIn b (st .used) ≡ blocksIn (st .map) (st .used) = ap blocksOf (verdict-same s) in
+    record { upto = omega (arith, e); blocks = λ k l. block-same s (holds-of g) k (omega (arith, l, blocks-of g)) }
+
+longer-turn : {st : State} → Good st → (x : Event) → May st x → Longer st (turn st x)
+longer-turn g (made c) a = longer-step g c a
+longer-turn g (handed b) a = longer-handed g (a .1)
+
 pub slot-numbers-stay : SlotNumbersStay
 unfolding run
 slot-numbers-stay st [] g a = (omega arith, λ k l. refl)
-slot-numbers-stay st (c ∷ cs) g a =
-    let s = longer-step g c (a .0) in
-    let r = slot-numbers-stay (step st c) cs (step-good g c (a .0)) (a .1) in
+slot-numbers-stay st (x ∷ xs) g a =
+    let s = longer-turn g x (a .0) in
+    let r = slot-numbers-stay (turn st x) xs (turn-good g x (a .0)) (a .1) in
     (omega (arith, s .upto, r .0), λ k l. r .1 k (omega (arith, s .upto)) ∙ s .blocks k l)
 
 did-done : {st : State} {c : Call} {n : ℕ} → Did st c n → isDone st c ≡ true
@@ -81,11 +89,14 @@ did-done d = rw (d .said)
 pub applied-once : AppliedOnce
 unfolding run doneIn appliedAll
 applied-once st [] g a = refl
-applied-once st (c ∷ cs) g a =
+applied-once st (made c ∷ xs) g a =
+    let r = applied-once (step st c) xs (step-good g c (a .0)) (a .1) in
     ⊎-elim
-    (λ (i : Idle st c). rw (i .idle) (applied-once (step st c) cs (step-good g c (a .0)) (a .1) ∙ ap (λ (x : State). appliedAll (doneIn (step st c) cs) (mapOf x)) (i .same)))
-    (λ (d : Did st c (g .blocks)). rw (did-done d) (applied-once (step st c) cs (step-good g c (a .0)) (a .1) ∙ ap (appliedAll (doneIn (step st c) cs)) (d .applies)))
+    (λ (i : Idle st c). rw (i .idle) (r ∙ ap (λ (x : State). appliedAll (doneIn (step st c) xs) (mapOf x)) (i .same)))
+    (λ (d : Did st c (g .blocks)). rw (did-done d) (r ∙ ap (appliedAll (doneIn (step st c) xs)) (d .applies)))
     (call-cases g c (a .0))
+applied-once st (handed b ∷ xs) g a =
+    applied-once (withBuffer st b) xs (turn-good g (handed b) (a .0)) (a .1) ∙ ap (appliedAll (doneIn (withBuffer st b) xs)) (a .0 .1)
 
 -- ---- the journal
 
@@ -96,23 +107,24 @@ did-records {st} {c} {n} g d =
 pub journal-grows : JournalGrows
 unfolding run recordsIn
 journal-grows st [] g a = (sym (append-nil (recordsOf (st .journal))), refl)
-journal-grows st (c ∷ cs) g a =
-    let r = journal-grows (step st c) cs (step-good g c (a .0)) (a .1) in
+journal-grows st (made c ∷ xs) g a =
+    let r = journal-grows (step st c) xs (step-good g c (a .0)) (a .1) in
     ⊎-elim
-    (λ (i : Idle st c). rw (i .idle) (r .0 ∙ ap (λ (x : State). recordsOf (x .journal) ++ recordsIn (step st c) cs) (i .same), r .1 ∙ ap (λ (x : State). length (x .journal)) (i .same)))
+    (λ (i : Idle st c). rw (i .idle) (r .0 ∙ ap (λ (x : State). recordsOf (x .journal) ++ recordsIn (step st c) xs) (i .same), r .1 ∙ ap (λ (x : State). length (x .journal)) (i .same)))
     (λ (d : Did st c (g .blocks)).
     rw (did-done d) (
-      r .0 ∙ ap (λ (x : List JournalRecord). x ++ recordsIn (step st c) cs) (did-records g d) ∙ append-assoc (recordsOf (st .journal)) (recordOf c (slotSaid (outcome st c .said)) ∷ []) (recordsIn (step st c) cs),
+      r .0 ∙ ap (λ (x : List JournalRecord). x ++ recordsIn (step st c) xs) (did-records g d) ∙ append-assoc (recordsOf (st .journal)) (recordOf c (slotSaid (outcome st c .said)) ∷ []) (recordsIn (step st c) xs),
       r .1 ∙ ap length (d .journal) ∙ length-appended (st .journal) (recordOf c (d .slot)),
     ))
     (call-cases g c (a .0))
+journal-grows st (handed b ∷ xs) g a = journal-grows (withBuffer st b) xs (turn-good g (handed b) (a .0)) (a .1)
 
 pub rest-zero : RestZero
 unfolding recordIn
-rest-zero st cs g a b l h =
-    let g′ = stays-good st cs g a in
-    let j = run st cs .journal in
-    let w = well-formed-tells j (run st cs .map) (g′ .blocks) (g′ .well) in
+rest-zero st xs g a b l h =
+    let g′ = stays-good st xs g a in
+    let j = run st xs .journal in
+    let w = well-formed-tells j (run st xs .map) (g′ .blocks) (g′ .well) in
     zero-record j (16 * (b / 16)) (w .rest (b / 16) (omega (arith, length-recordsOf j)) (omega (arith, w .whole))) b (omega arith) (omega arith)
 
 -- ---- what is not done changes nothing
@@ -147,10 +159,11 @@ keeps-step {st} g c a {e} k =
     }))
     (call-cases g c a)
 
-pub keeps-run : {st : State} → Good st → (cs : List Call) → AllSent cs → {e : ℕ} {r : JournalRecord} → Keeps (st .journal) e r → Keeps (run st cs .journal) e r
+pub keeps-run : {st : State} → Good st → (xs : List Event) → Fair st xs → {e : ℕ} {r : JournalRecord} → Keeps (st .journal) e r → Keeps (run st xs .journal) e r
 unfolding run
 keeps-run g [] a k = k
-keeps-run g (c ∷ cs) a k = keeps-run (step-good g c (a .0)) cs (a .1) (keeps-step g c (a .0) k)
+keeps-run g (made c ∷ xs) a k = keeps-run (step-good g c (a .0)) xs (a .1) (keeps-step g c (a .0) k)
+keeps-run g (handed b ∷ xs) a k = keeps-run (turn-good g (handed b) (a .0)) xs (a .1) k
 
 number-of : (c : Call) (s : ℕ) → recordOf c s .number ≡ editNumber c
 number-of (add e o) s = refl
@@ -159,24 +172,25 @@ number-of (reinstate e t) s = refl
 number-of (search w l) s = refl
 
 pub never-acts-again : NeverActsAgain
-never-acts-again st cs c g a b h =
-    let g′ = stays-good st cs g a in
-    let k = keeps-run g cs a (record { held = h; is = refl }) in
+never-acts-again st xs c g a b h =
+    let g′ = stays-good st xs g a in
+    let k = keeps-run g xs a (record { held = h; is = refl }) in
     ⊎-elim
-    (λ (i : Idle (run st cs) c). (i .same, i .idle))
-    (λ (d : Did (run st cs) c (g′ .blocks)). absurd (never (sym (rw (number-of c (d .slot)) (k .held)) ∙ d .fresh)))
+    (λ (i : Idle (run st xs) c). (i .same, i .idle))
+    (λ (d : Did (run st xs) c (g′ .blocks)). absurd (never (sym (rw (number-of c (d .slot)) (k .held)) ∙ d .fresh)))
     (call-cases g′ c b)
 
 -- ---- each number once
 
-numbers-recorded : (st : State) (cs : List Call) → numbersOf (recordsIn st cs) ≡ numbersIn st cs
+numbers-recorded : (st : State) (xs : List Event) → numbersOf (recordsIn st xs) ≡ numbersIn st xs
 unfolding recordsIn doneIn
 numbers-recorded st [] = refl
-numbers-recorded st (c ∷ cs) = go (isDone st c) (numbers-recorded (step st c) cs)
+numbers-recorded st (handed b ∷ xs) = numbers-recorded (withBuffer st b) xs
+numbers-recorded st (made c ∷ xs) = go (isDone st c) (numbers-recorded (step st c) xs)
   where
-    go : (b : Bool) → numbersOf (recordsIn (step st c) cs) ≡ numbersIn (step st c) cs
-        → numbersOf (cond b (recordOf c (slotSaid (outcome st c .said)) ∷ recordsIn (step st c) cs) (recordsIn (step st c) cs))
-        ≡ map editNumber (cond b (c ∷ doneIn (step st c) cs) (doneIn (step st c) cs))
+    go : (b : Bool) → numbersOf (recordsIn (step st c) xs) ≡ numbersIn (step st c) xs
+        → numbersOf (cond b (recordOf c (slotSaid (outcome st c .said)) ∷ recordsIn (step st c) xs) (recordsIn (step st c) xs))
+        ≡ map editNumber (cond b (c ∷ doneIn (step st c) xs) (doneIn (step st c) xs))
     go true e = rw (number-of c (slotSaid (outcome st c .said)), e)
     go false e = e
 
@@ -197,11 +211,12 @@ once-more {j} {j′} {es} {e} free held keep o = record { distinct = distinct-fr
     new-in x (zero, l, q) = rw (sym q) free
     new-in x (suc i, l, q) = unheld x (isHeld j x) refl (o .new x (i, omega arith, q))
 
-once-in : (st : State) (cs : List Call) → Good st → AllSent cs → Once (st .journal) (numbersIn st cs)
+once-in : (st : State) (xs : List Event) → Good st → Fair st xs → Once (st .journal) (numbersIn st xs)
 unfolding doneIn
 once-in st [] g a = record { distinct = λ i k l h q. omega arith; new = λ e h. let no-way : ⊥ = omega (arith, h .1) in absurd no-way }
-once-in st (c ∷ cs) g a =
-    let o = once-in (step st c) cs (step-good g c (a .0)) (a .1) in
+once-in st (handed b ∷ xs) g a = once-in (withBuffer st b) xs (turn-good g (handed b) (a .0)) (a .1)
+once-in st (made c ∷ xs) g a =
+    let o = once-in (step st c) xs (step-good g c (a .0)) (a .1) in
     ⊎-elim
     (λ (i : Idle st c). rw (i .idle, i .same) (rw (i .same) at o))
     (λ (d : Did st c (g .blocks)).
@@ -214,4 +229,4 @@ once-in st (c ∷ cs) g a =
     (call-cases g c (a .0))
 
 pub numbers-once : NumbersOnce
-numbers-once st cs g a = (once-in st cs g a, numbers-recorded st cs)
+numbers-once st xs g a = (once-in st xs g a, numbers-recorded st xs)

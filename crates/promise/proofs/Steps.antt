@@ -169,9 +169,11 @@ any-start m used j e k p v = rw v
 pub change-idle : (m : List ℕ) (used : ℕ) (j : List ℕ) (e kind s : ℕ) (v : Verdict) → verdict m used ≡ v → saysDone (edited (changed m used j e kind s .answer)) ≡ false → Still m j (changed m used j e kind s)
 change-idle m used j e kind s (verdicts.Accepted n) q i =
     ⊎-elim (λ x. x) (λ d. absurd (never (sym (ap (λ a. saysDone (edited a)) (d .answer)) ∙ i))) (change-cases m used j e kind s n q)
-change-idle m used j e kind s (verdicts.Refused k p) q i = unfold changed in rw (any-start m used j e k p q) (still m j (Refused k p) refl)
+change-idle m used j e kind s (verdicts.Refused k p) q i =
+    unfold changed in rw (any-start m used j e k p q) (still m j (Refused k p) (rw (any-start m used j e k p q) at i))
 
 pub add-idle : (m : List ℕ) (used : ℕ) (j : List ℕ) (e : ℕ) (o : List ℕ) (v : Verdict) → verdict m used ≡ v → saysDone (edited (added m used j e o .answer)) ≡ false → Still m j (added m used j e o)
 add-idle m used j e o (verdicts.Accepted n) q i =
     ⊎-elim (λ x. x) (λ d. absurd (never (sym (ap (λ a. saysDone (edited a)) (d .answer)) ∙ i))) (add-cases m used j e o n q)
-add-idle m used j e o (verdicts.Refused k p) q i = unfold added in rw (any-start m used j e k p q) (still m j (Refused k p) refl)
+add-idle m used j e o (verdicts.Refused k p) q i =
+    unfold added in rw (any-start m used j e k p q) (still m j (Refused k p) (rw (any-start m used j e k p q) at i))

@@ -1,6 +1,6 @@
 -- The customer's third demand (README.md, "The three demands"), sentence by sentence, as statements over runs. The quoted sentences are its words. Each is
--- proved in proofs/ under the same name in small letters. A state is good when its map is accepted and its journal well formed for it; calls may carry any
--- numbers and bytes that a machine can send.
+-- proved in proofs/ under the same name in small letters. A state is good when its map is accepted and its journal well formed for it. In a run calls may
+-- carry any numbers and bytes that a machine can send, and between two of them the host may put the map into another buffer (`Fair`).
 use Prim.Native.Nat.{ℕ, _+_, _-_, _*_, _/_, _≤_, _<_}
 use mathlib.Core.Bool.{true, false}
 use mathlib.Core.Path.{_≡_}
@@ -25,12 +25,12 @@ use Rattle.edit.specs.declared.EditAnswer.the-variants.{Before}
 use Rattle.accept.specs.Slots.{slotIn}
 use Rattle.change.specs.Slots.{resym, objectSym}
 use Rattle.add.specs.Adds.{slotAdded}
-use Rattle.promise.specs.Runs.{State, Call, add, remove, reinstate, search, Said, edited, searched, outcome, step, run, slotSaid, isDone, doneIn, recordsIn, blocksIn, Map, appliedAll, isLiveIn, contentOf, Good, Sent, AllSent}
+use Rattle.promise.specs.Runs.{State, Call, add, remove, reinstate, search, Said, edited, searched, outcome, step, Event, made, handed, run, slotSaid, isDone, doneIn, recordsIn, blocksIn, mapOf, appliedAll, isLiveIn, contentOf, Good, Sent, Fair}
 
 -- ---- "after any run of adds, removals, reinstatements and searches, refused and repeated ones among them, the map is accepted"; and the journal is well
 -- formed for it
 abbrev pub StaysGood : Type 0
-StaysGood = (st : State) (cs : List Call) → Good st → AllSent cs → Good (run st cs)
+StaysGood = (st : State) (xs : List Event) → Good st → Fair st xs → Good (run st xs)
 
 -- ---- "its index blocks are disjoint and end within (length - 48) / 6148 blocks, rounded down"
 pub record Ends (m : List ℕ) (used : ℕ) : Type 0 where
@@ -39,21 +39,18 @@ pub record Ends (m : List ℕ) (used : ℕ) : Type 0 where
   pub within : blocksIn m used ≤ (used - headerSize) / indexBlockSize
 
 abbrev pub IndexEnds : Type 0
-IndexEnds = (st : State) (cs : List Call) → Good st → AllSent cs → Ends (run st cs .map) (run st cs .used)
+IndexEnds = (st : State) (xs : List Event) → Good st → Fair st xs → Ends (run st xs .map) (run st xs .used)
 
 -- ---- slot numbers stay: the first chain is a prefix of the last
 abbrev pub SlotNumbersStay : Type 0
 SlotNumbersStay =
-    (st : State) (cs : List Call) → Good st → AllSent cs
-    → (blocksIn (st .map) (st .used) ≤ blocksIn (run st cs .map) (run st cs .used))
-    × ((k : ℕ) → k < blocksIn (st .map) (st .used) → block indexHead (run st cs .map) k ≡ block indexHead (st .map) k)
+    (st : State) (xs : List Event) → Good st → Fair st xs
+    → (blocksIn (st .map) (st .used) ≤ blocksIn (run st xs .map) (run st xs .used))
+    × ((k : ℕ) → k < blocksIn (st .map) (st .used) → block indexHead (run st xs .map) k ≡ block indexHead (st .map) k)
 
 -- ---- "its live slots, with contents, are those of the first map with each edit done here applied once, in the order first done": the whole map is
-abbrev pub mapOf : State → Map
-mapOf st = record { map = st .map; used = st .used }
-
 abbrev pub AppliedOnce : Type 0
-AppliedOnce = (st : State) (cs : List Call) → Good st → AllSent cs → mapOf (run st cs) ≡ appliedAll (doneIn st cs) (mapOf st)
+AppliedOnce = (st : State) (xs : List Event) → Good st → Fair st xs → mapOf (run st xs) ≡ appliedAll (doneIn st xs) (mapOf st)
 
 -- ---- and edit by edit: the live slots with their contents change in the edit's own slot alone
 abbrev pub Own : State → Call → ℕ → Type 0
@@ -124,20 +121,20 @@ AddedIsFound =
 -- ---- a slot that was live, and is live again after removals and reinstatements, has the content it had
 abbrev pub ContentStays : Type 0
 ContentStays =
-    (st : State) (cs : List Call) (s : ℕ) → Good st → AllSent cs → isLiveIn st s ≡ true → isLiveIn (run st cs) s ≡ true
-    → contentOf (run st cs .map) s ≡ contentOf (st .map) s
+    (st : State) (xs : List Event) (s : ℕ) → Good st → Fair st xs → isLiveIn st s ≡ true → isLiveIn (run st xs) s ≡ true
+    → contentOf (run st xs .map) s ≡ contentOf (st .map) s
 
 -- ---- "the journal holds its first records, then one for each of those edits in order"; and its length stays
 abbrev pub JournalGrows : Type 0
 JournalGrows =
-    (st : State) (cs : List Call) → Good st → AllSent cs
-    → (recordsOf (run st cs .journal) ≡ recordsOf (st .journal) ++ recordsIn st cs) × (length (run st cs .journal) ≡ length (st .journal))
+    (st : State) (xs : List Event) → Good st → Fair st xs
+    → (recordsOf (run st xs .journal) ≡ recordsOf (st .journal) ++ recordsIn st xs) × (length (run st xs .journal) ≡ length (st .journal))
 
 -- ---- the rest of the journal is zero, at any time of a run: every byte behind its records
 abbrev pub RestZero : Type 0
 RestZero =
-    (st : State) (cs : List Call) → Good st → AllSent cs
-    → (b : ℕ) → journalRecordSize * length (recordsOf (run st cs .journal)) ≤ b → b < length (run st cs .journal) → getD (run st cs .journal) b 0 ≡ 0
+    (st : State) (xs : List Event) → Good st → Fair st xs
+    → (b : ℕ) → journalRecordSize * length (recordsOf (run st xs .journal)) ≤ b → b < length (run st xs .journal) → getD (run st xs .journal) b 0 ≡ 0
 
 -- ---- "an edit number the journal holds never acts again", at any later time
 abbrev pub editNumber : Call → ℕ
@@ -148,12 +145,18 @@ editNumber (search w l) = 0
 
 abbrev pub NeverActsAgain : Type 0
 NeverActsAgain =
-    (st : State) (cs : List Call) (c : Call) → Good st → AllSent cs → Sent c → isHeld (st .journal) (editNumber c) ≡ true
-    → (step (run st cs) c ≡ run st cs) × (isDone (run st cs) c ≡ false)
+    (st : State) (xs : List Event) (c : Call) → Good st → Fair st xs → Sent c → isHeld (st .journal) (editNumber c) ≡ true
+    → (step (run st xs) c ≡ run st xs) × (isDone (run st xs) c ≡ false)
+
+-- ---- "done before", with its slot, is what the exact repeat of an edit that was done is answered, at any later time, adds too
+abbrev pub RepeatIsTold : Type 0
+RepeatIsTold =
+    (st : State) (c : Call) (xs : List Event) → Good st → Sent c → isDone st c ≡ true → Fair (step st c) xs
+    → outcome (run (step st c) xs) c .said ≡ edited (Before (slotSaid (outcome st c .said)) (run (step st c) xs .used))
 
 -- ---- and so the numbers of the edits done in a run, which are those of their records, are distinct from each other, and the first journal holds none of them
-abbrev pub numbersIn : State → List Call → List ℕ
-numbersIn st cs = map editNumber (doneIn st cs)
+abbrev pub numbersIn : State → List Event → List ℕ
+numbersIn st xs = map editNumber (doneIn st xs)
 
 abbrev pub numbersOf : List JournalRecord → List ℕ
 numbersOf rs = map (λ (r : JournalRecord). r .number) rs
@@ -164,8 +167,8 @@ pub record Once (j numbers : List ℕ) : Type 0 where
 
 abbrev pub NumbersOnce : Type 0
 NumbersOnce =
-    (st : State) (cs : List Call) → Good st → AllSent cs
-    → Once (st .journal) (numbersIn st cs) × (numbersOf (recordsIn st cs) ≡ numbersIn st cs)
+    (st : State) (xs : List Event) → Good st → Fair st xs
+    → Once (st .journal) (numbersIn st xs) × (numbersOf (recordsIn st xs) ≡ numbersIn st xs)
 
 -- ---- refusals and "done before" change nothing, and neither does a search
 abbrev pub NothingElse : Type 0
@@ -175,15 +178,16 @@ NothingElse =
 
 -- ---- the footbridge: removed under number e, drawn back in under number f, and the phone repeats the removal. It is answered "done before", and the bridge
 -- stays, with the content it had, whatever calls stand between that do not remove it
-abbrev pub Removes : ℕ → Call → Type 0
-Removes s (add e o) = ⊥
-Removes s (remove e t) = t ≡ s
-Removes s (reinstate e t) = ⊥
-Removes s (search w l) = ⊥
+abbrev pub Removes : ℕ → Event → Type 0
+Removes s (made (add e o)) = ⊥
+Removes s (made (remove e t)) = t ≡ s
+Removes s (made (reinstate e t)) = ⊥
+Removes s (made (search w l)) = ⊥
+Removes s (handed b) = ⊥
 
-abbrev pub NoneRemoves : ℕ → List Call → Type 0
+abbrev pub NoneRemoves : ℕ → List Event → Type 0
 NoneRemoves s [] = Unit {0}
-NoneRemoves s (c ∷ cs) = (Removes s c → ⊥) × NoneRemoves s cs
+NoneRemoves s (x ∷ xs) = (Removes s x → ⊥) × NoneRemoves s xs
 
 pub record BridgeStays (before now : State) (e s : ℕ) : Type 0 where
   pub said : outcome now (remove e s) .said ≡ edited (Before s (now .used))
@@ -193,8 +197,10 @@ pub record BridgeStays (before now : State) (e s : ℕ) : Type 0 where
 
 abbrev pub Footbridge : Type 0
 Footbridge =
-    (st : State) (e f s : ℕ) (cs ds : List Call) → Good st → Sent (remove e s) → Sent (reinstate f s) → AllSent cs → AllSent ds
+    (st : State) (e f s : ℕ) (xs ys : List Event) → Good st → Sent (remove e s) → Sent (reinstate f s)
+    → Fair (step st (remove e s)) xs
+    → Fair (step (run (step st (remove e s)) xs) (reinstate f s)) ys
     → isDone st (remove e s) ≡ true
-    → isDone (run (step st (remove e s)) cs) (reinstate f s) ≡ true
-    → NoneRemoves s ds
-    → BridgeStays st (run (step (run (step st (remove e s)) cs) (reinstate f s)) ds) e s
+    → isDone (run (step st (remove e s)) xs) (reinstate f s) ≡ true
+    → NoneRemoves s ys
+    → BridgeStays st (run (step (run (step st (remove e s)) xs) (reinstate f s)) ys) e s
