@@ -8,7 +8,7 @@ use native.Mathlib.Decide.{ℕ-discrete}
 use Rattle.slots.specs.declared.State.the-variants.{Live}
 use Rattle.records.specs.Journals.{recordFor}
 use Rattle.journal.proofs.Records.{shape-tells}
-use Rattle.promise.specs.Runs.{State, Call, add, remove, reinstate, search, edited, step, Event, made, handed, withBuffer, run, recordOf, isLiveIn, contentOf, Good, Sent, HoldsMap, Fair}
+use Rattle.promise.specs.Runs.{State, Call, add, remove, reinstate, search, edited, step, Event, made, handed, withBuffer, run, recordOf, isLiveIn, Good, Sent, HoldsMap, Fair}
 use Rattle.promise.specs.Promises.{Removes, NoneRemoves, Footbridge}
 use Rattle.promise.proofs.Whole.{has-same}
 use Rattle.promise.proofs.Keeping.{Did, Idle, holds-of, call-cases, step-good, handed-same, turn-good}

@@ -114,7 +114,7 @@ unfolding canReinstate
 can-exists m used n s e = has-tells Erased m n s (and-true (hasState Erased m n s) _ e .0) .0
 
 module _ {m : List ℕ} {used n : ℕ} (h : Holds m used n) (bytes : Bytes m) (s : ℕ) (can : canReinstate m used n s ≡ true) where
-  can-parts : (hasState Erased m n s ≡ true) × (objectSym m s ≡ 0 → ⊥) × (isAccepted (verdict (withSym m s (objectSym m s)) used) ≡ true)
+  pub can-parts : (hasState Erased m n s ≡ true) × (objectSym m s ≡ 0 → ⊥) × (isAccepted (verdict (withSym m s (objectSym m s)) used) ≡ true)
   unfolding canReinstate
   can-parts =
       let a = and-true (hasState Erased m n s) _ can in

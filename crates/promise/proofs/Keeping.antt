@@ -8,7 +8,6 @@ use native.Mathlib.Omega.{arith}
 use lib.ListN.{length, getD, take}
 use lib.Seq.{length-take-le}
 use Rattle.numbers.specs.Bytes.{Bytes}
-use Rattle.numbers.proofs.Below.{never}
 use Rattle.windows.specs.declared.Window.{Window}
 use Rattle.records.specs.Journals.{recordFor, shapeGood}
 use Rattle.records.proofs.Journals.{RecordFits}
@@ -20,17 +19,16 @@ use Rattle.journal.specs.Journals.{wellFormed, isHeld, isFull, appended, slotUs
 use Rattle.journal.proofs.Journals.{appended-well}
 use Rattle.journal.proofs.Records.{shape-is}
 use Rattle.edit.specs.declared.EditAnswer.{EditAnswer}
-use Rattle.edit.specs.declared.EditAnswer.the-variants.{Done, Before, Refused}
-use Rattle.slots.specs.declared.State.the-variants.{Erased, Live}
+use Rattle.edit.specs.declared.EditAnswer.the-variants.{Done}
+use Rattle.slots.specs.declared.State.the-variants.{Live}
 use Rattle.judge.specs.Judging.{versionOf}
-use Rattle.judge.proofs.Telling.{and-true}
 use Rattle.accept.specs.Slots.{slotIn, freeSlot}
 use Rattle.change.specs.Slots.{hasState, resym, withSym, objectSym, canReinstate, allowedFor, symFor}
 use Rattle.add.specs.Objects.{offeredGood}
 use Rattle.change.proofs.Syms.{has-tells}
 use Rattle.edit.specs.Edits as edits
 use Rattle.change.specs.Changes.{changed}
-use Rattle.add.specs.Adds.{added, newLength, addedMap, slotAdded}
+use Rattle.add.specs.Adds.{added, newLength, slotAdded}
 use Rattle.promise.specs.Runs.{State, Call, add, remove, reinstate, search, edited, Outcome, outcome, ofEdit, lengthAfter, next, step, saysDone, isDone, recordOf, mapOf, grown, Event, made, handed, withBuffer, turn, applied, Good, Sent, HoldsMap, May}
 use Rattle.promise.proofs.Bytes.{appended-bytes, sym-bytes, added-bytes}
 use Rattle.promise.proofs.Contents.{can-exists}

@@ -11,6 +11,8 @@
 --     Repeats      the exact repeat of a done edit
 --     Bridge       the footbridge
 --     Finding      what a search finds
+--     Agreeing     one accepted map in two buffers
+--     Buffers      what the buffer has behind the map decides nothing but 11
 --     Answers      one answer each
 --     Tables       the worked examples
 --     Footprints   what the verdict depends on
@@ -26,6 +28,8 @@ pub mod Dormant
 pub mod Repeats
 pub mod Bridge
 pub mod Finding
+pub mod Agreeing
+pub mod Buffers
 pub mod Answers
 pub mod Tables
 pub mod Footprints

@@ -47,7 +47,7 @@ pub record Moved (m m′ : List ℕ) (used used′ n n′ s : ℕ) : Type 0 wher
 
 -- ---- a slot in use stays in use
 
-use-tells : (m : List ℕ) (n d : ℕ) → slotUsed m n d ≡ true → (d < 256 * n) × (slotIn m d .len ≡ 0 → ⊥)
+pub use-tells : (m : List ℕ) (n d : ℕ) → slotUsed m n d ≡ true → (d < 256 * n) × (slotIn m d .len ≡ 0 → ⊥)
 unfolding slotUsed slotIn
 use-tells m n d e =
     let a = and-true (ltb d (256 * n)) (not (eqb (slotOf m (slotAt m d) .len) 0)) e in

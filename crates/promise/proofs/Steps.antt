@@ -41,7 +41,7 @@ still : (m j : List ℕ) (a : EditAnswer) → saysDone (edited a) ≡ false → 
 still m j a e = record { map = refl; journal = refl; idle = e }
 
 -- how an edit starts, in a map that is accepted
-start-of : (m : List ℕ) (used : ℕ) (j : List ℕ) (e n : ℕ) → verdict m used ≡ verdicts.Accepted n → startOf m used j e ≡ afterLook m n (looked j m n e)
+pub start-of : (m : List ℕ) (used : ℕ) (j : List ℕ) (e n : ℕ) → verdict m used ≡ verdicts.Accepted n → startOf m used j e ≡ afterLook m n (looked j m n e)
 unfolding startOf
 start-of m used j e n v = rw v
 
@@ -162,7 +162,7 @@ module _ (m : List ℕ) (used : ℕ) (j : List ℕ) (e : ℕ) (o : List ℕ) (n 
 
 -- ---- in any map at all: what is not done changes nothing
 
-any-start : (m : List ℕ) (used : ℕ) (j : List ℕ) (e k p : ℕ) → verdict m used ≡ verdicts.Refused k p → startOf m used j e ≡ starts.Refused k p
+pub any-start : (m : List ℕ) (used : ℕ) (j : List ℕ) (e k p : ℕ) → verdict m used ≡ verdicts.Refused k p → startOf m used j e ≡ starts.Refused k p
 unfolding startOf
 any-start m used j e k p v = rw v
 

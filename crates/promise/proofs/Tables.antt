@@ -1,6 +1,6 @@
 -- The worked examples, by computation; the length after the second add by the law of an add, since slot 0 is then taken and slot 1 free; and what the two adds
 -- answer, since the journal stays well formed. Assumes nothing.
-use Prim.Native.Nat.{ℕ, _+_, _*_, _≤_}
+use Prim.Native.Nat.{ℕ, _*_, _≤_}
 use mathlib.Core.Bool.{true, false}
 use mathlib.Core.Path.{_≡_, refl}
 use mathlib.Core.List.{List, [], _∷_, _++_}

@@ -115,7 +115,7 @@ module _ {m : List ℕ} {used n : ℕ} (h : Holds m used n) where
 -- ---- what is asked of an accepted map in another buffer
 
 -- two tests that pass together are one
-one-test : (a b : Bool) → (a ≡ true → b ≡ true) → (b ≡ true → a ≡ true) → b ≡ a
+pub one-test : (a b : Bool) → (a ≡ true → b ≡ true) → (b ≡ true → a ≡ true) → b ≡ a
 one-test true b f g = f refl
 one-test false true f g = absurd (never (sym (g refl)))
 one-test false false f g = refl

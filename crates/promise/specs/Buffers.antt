@@ -4,9 +4,9 @@
 --                         lengths
 --     TooShort st c       the call says 11: the buffer, or what a map may have at most, has no room for the object
 --     BytesBehind         the check answers the same for both; and so does every call, and leaves alike states, unless one of the buffers is too short for it
-use Prim.Native.Nat.{ℕ}
 use mathlib.Core.Path.{_≡_}
 use mathlib.Core.Logic.{_⊎_}
+use Rattle.numbers.specs.Bytes.{Bytes}
 use Rattle.edit.specs.declared.EditAnswer.the-variants.{Refused}
 use Rattle.accept.specs.Verdicts.{verdict}
 use Rattle.promise.specs.Runs.{State, Call, edited, outcome, step, mapOf}
@@ -21,5 +21,5 @@ TooShort st c = outcome st c .said ≡ edited (Refused 11 0)
 
 pub record BytesBehind : Type 0 where
   pub check : (st st′ : State) → Alike st st′ → verdict (st′ .map) (st′ .used) ≡ verdict (st .map) (st .used)
-  pub call : (st st′ : State) (c : Call) → Alike st st′
+  pub call : (st st′ : State) (c : Call) → Bytes (st .map) → Bytes (st′ .map) → Alike st st′
       → ((outcome st′ c .said ≡ outcome st c .said) × Alike (step st c) (step st′ c)) ⊎ (TooShort st c ⊎ TooShort st′ c)
