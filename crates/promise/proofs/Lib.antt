@@ -13,6 +13,8 @@
 --     Finding      what a search finds
 --     Agreeing     one accepted map in two buffers
 --     Buffers      what the buffer has behind the map decides nothing but 11
+--     Zeros        no refusal has number 0
+--     Signed       inside a map signed and unsigned are the same
 --     Answers      one answer each
 --     Tables       the worked examples
 --     Footprints   what the verdict depends on
@@ -30,6 +32,8 @@ pub mod Bridge
 pub mod Finding
 pub mod Agreeing
 pub mod Buffers
+pub mod Zeros
+pub mod Signed
 pub mod Answers
 pub mod Tables
 pub mod Footprints

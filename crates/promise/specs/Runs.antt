@@ -53,6 +53,13 @@ use Rattle.add.specs.Adds.{added, isFree, slotAdded}
 use Rattle.change.specs.Changes.{removed, reinstated}
 use Rattle.edit.specs.Edits.{numberOf, beforeOf, slotNo, lengthOf}
 
+abbrev pub blocksOf : Verdict → ℕ
+blocksOf (verdicts.Accepted n) = n
+blocksOf (verdicts.Refused n p) = 0
+
+abbrev pub blocksIn : List ℕ → ℕ → ℕ
+blocksIn m used = blocksOf (verdict m used)
+
 pub record State : Type 0 where
   pub map : List ℕ
   pub used : ℕ
@@ -141,13 +148,6 @@ unfoldable pub recordsIn : State → List Event → List JournalRecord
 recordsIn st [] = []
 recordsIn st (made c ∷ xs) = cond (isDone st c) (recordOf c (slotSaid (outcome st c .said)) ∷ recordsIn (step st c) xs) (recordsIn (step st c) xs)
 recordsIn st (handed b ∷ xs) = recordsIn (withBuffer st b) xs
-
-abbrev pub blocksOf : Verdict → ℕ
-blocksOf (verdicts.Accepted n) = n
-blocksOf (verdicts.Refused n p) = 0
-
-abbrev pub blocksIn : List ℕ → ℕ → ℕ
-blocksIn m used = blocksOf (verdict m used)
 
 abbrev pub mapOf : State → List ℕ
 mapOf st = take (st .used) (st .map)
