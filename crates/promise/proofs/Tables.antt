@@ -38,6 +38,7 @@ use Rattle.promise.specs.Tables.{empty7, pointObject, pointSlot, emptyJo
 use Rattle.promise.proofs.Bytes.{All, then, bytes-cons, bytes-nil, zero-bytes}
 use Rattle.promise.proofs.Steps.{add-done}
 use Rattle.promise.proofs.Moves.{Moved, moved-use, moved-here, added-grown, added-moved, blocksAfter}
+use Rattle.promise.specs.Runs.{Good}
 
 accepted : verdict empty7 48 ≡ Accepted 0
 unfolding verdict headerJudged fieldsJudged lengthGood headerOf pairGood partGood leAt afterIndexOf symbolsJudgedOf entriesJudgedOf slotsJudgedOf cellsJudged walked taken first any stops block place
@@ -85,6 +86,10 @@ empty-room : (isHeld emptyJournal 1 ≡ false) × (isFull emptyJournal ≡ false
 unfolding isHeld holder isFull inUse first any recordIn recordOf isUnused leAt
 empty-room = (refl, refl)
 
+empty-well : (m : List ℕ) → wellFormed emptyJournal m 0 ≡ true
+unfolding wellFormed badRecord inUse first any recordIn recordOf isUnused leAt
+empty-well m = refl
+
 first-room : (isHeld (appended emptyJournal firstRecord) 2 ≡ false) × (isFull (appended emptyJournal firstRecord) ≡ false)
 unfolding appended recordBytes bytesOf isHeld holder isFull inUse first any recordIn recordOf isUnused leAt
 first-room = (refl, refl)
@@ -131,13 +136,9 @@ module _ (m : List ℕ) (v : verdict m 48 ≡ Accepted 0) (seven : versionOf m �
 
   -- ---- what the adds answer
 
-  empty-well : wellFormed emptyJournal m 0 ≡ true
-  unfolding wellFormed badRecord inUse first any recordIn recordOf isUnused leAt
-  empty-well = refl
-
   one : added m 48 emptyJournal 1 pointObject ≡ record { answer = Done 0 6236; map = m′; journal = appended emptyJournal firstRecord }
   unfolding m′ newLength freeSlot first
-  one = add-done m 48 emptyJournal 1 pointObject 0 v (λ q. omega arith) (empty-room .0) empty-well good (omega arith) room (empty-room .1)
+  one = add-done m 48 emptyJournal 1 pointObject 0 v (λ q. omega arith) (empty-room .0) (empty-well m) good (omega arith) room (empty-room .1)
 
   moved : Moved m m′ 48 6236 0 1 0
   unfolding m′ blocksAfter newLength freeSlot first
@@ -145,7 +146,7 @@ module _ (m : List ℕ) (v : verdict m 48 ≡ Accepted 0) (seven : versionOf m �
 
   first-well : wellFormed (appended emptyJournal firstRecord) m′ 1 ≡ true
   first-well =
-      appended-well emptyJournal m m′ 0 1 firstRecord empty-well (empty-room .1) (empty-room .0) first-fits first-shape (moved-use moved) (moved-here moved)
+      appended-well emptyJournal m m′ 0 1 firstRecord (empty-well m) (empty-room .1) (empty-room .0) first-fits first-shape (moved-use moved) (moved-here moved)
 
   length-same : length m′ ≡ length m
   unfolding m′ addedMap inBlock freeSlot first
@@ -174,6 +175,21 @@ second-answer rest room =
     let enough : 6236 ≤ length (empty7 ++ rest) = omega arith in
     rw (one (empty7 ++ rest) v seven enough) (two (empty7 ++ rest) v seven enough room)
 
+good-state : (rest : List ℕ) → Bytes rest → Good (record { map = empty7 ++ rest; used = 48; journal = emptyJournal })
+good-state rest b =
+    record {
+      blocks = 0;
+      accepted = accepted-in rest;
+      well = empty-well (empty7 ++ rest);
+      map-bytes = then {ys = rest} empty-bytes (record { all = b }) .all;
+      journal-bytes = zero-bytes 32 .all;
+    }
+  where
+    empty-bytes : All empty7
+    empty-bytes =
+        bytes-cons (omega arith) (bytes-cons (omega arith) (bytes-cons (omega arith)
+        (bytes-cons (omega arith) (bytes-cons (omega arith) (bytes-cons (omega arith) (zero-bytes 42))))))
+
 pub table : Table
 unfolding valueOf signed meetsWindow
 table =
@@ -187,4 +203,5 @@ table =
       second = length-two;
       first-answer = first-answer;
       second-answer = second-answer;
+      good = good-state;
     }

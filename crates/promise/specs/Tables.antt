@@ -10,6 +10,7 @@ use mathlib.Core.List.{List, [], _∷_, _++_, map}
 use mathlib.Core.Path.{_≡_}
 use lib.IntN.{pos, negsuc}
 use lib.ListN.{length, replicate}
+use Rattle.numbers.specs.Bytes.{Bytes}
 use Rattle.numbers.specs.Coordinates.{valueOf}
 use Rattle.slots.specs.declared.Slot.{Slot}
 use Rattle.windows.specs.declared.Window.{Window}
@@ -21,6 +22,7 @@ use Rattle.add.specs.Objects.{slotFor}
 use Rattle.edit.specs.declared.EditAnswer.the-variants.{Done}
 use Rattle.edit.specs.Edits.{Outcome}
 use Rattle.add.specs.Adds.{newLength, addedMap, added}
+use Rattle.promise.specs.Runs.{Good}
 
 abbrev pub empty7 : List ℕ
 empty7 = 173 ∷ 12 ∷ 7 ∷ 0 ∷ 7 ∷ 0 ∷ replicate 42 0
@@ -58,3 +60,5 @@ pub record Table : Type 0 where
   -- and so the two adds answer, in every buffer with room
   pub first-answer : (rest : List ℕ) → 6236 ≤ length (empty7 ++ rest) → firstAdd rest .answer ≡ Done 0 6236
   pub second-answer : (rest : List ℕ) → 6276 ≤ length (empty7 ++ rest) → secondAdd rest .answer ≡ Done 1 6276
+  -- a run can begin: the empty map with its journal, in every buffer of bytes, is a good state. So the promises over runs, which begin in one, say something
+  pub good : (rest : List ℕ) → Bytes rest → Good (record { map = empty7 ++ rest; used = 48; journal = emptyJournal })
