@@ -6,6 +6,7 @@
 --     Slots        the first free slot
 --     Accepting    what an accepted map tells, and what shows one
 --     Meets        an accepted map meets document 01, and a map that meets it is accepted
+--     Contracts    what the contracts of the public calls say, and that it allows one answer
 pub mod Firsts
 pub mod Looking
 pub mod Slots
@@ -13,3 +14,4 @@ pub mod Verdicts
 pub mod Opens
 pub mod Accepting
 pub mod Meets
+pub mod Contracts

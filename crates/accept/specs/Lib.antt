@@ -3,7 +3,9 @@
 --     Opens       the first six of its refusals, with the table of the index blocks
 --     Slots       the slots by number: their fields, the first free one
 --     Meets       document 01's conditions, sentence by sentence: the check accepts exactly the maps that meet them
+--     Contracts   what a public call's contract says, as it is written in src
 pub mod Verdicts
 pub mod Opens
 pub mod Slots
 pub mod Meets
+pub mod Contracts

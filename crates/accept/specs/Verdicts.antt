@@ -10,9 +10,11 @@
 --                               its entries, then its link
 --     slotsJudged m used n      7: the live slot at fault of lowest number
 --     afterIndex, verdict       5: the link of an index block, at the place where the link is stored; then 6, then 7
+--     Checked m used v          the check's result: its answer v is the verdict
 --     entriesJudgedOf f, symbolsJudgedOf f, slotsJudgedOf f, afterIndexOf f     the same of a family (`judge`, Rules); those without a family are of 6, 7 and 8
 use Prim.Native.Nat.{ℕ, _*_}
 use mathlib.Core.Bool.{Bool, cond}
+use mathlib.Core.Path.{_≡_}
 use mathlib.Core.List.{List}
 use lib.Dec.{ltb, eqb}
 use Rattle.numbers.specs.Below.{first}
@@ -90,3 +92,6 @@ afterIndex m used w = afterIndexOf narrow m used w
 
 unfoldable pub verdict : List ℕ → ℕ → Verdict
 verdict m used = unless (headerJudged m used) (afterIndex m used (walked (indexRule m) m used))
+
+abbrev pub Checked : List ℕ → ℕ → Verdict → Type 0
+Checked m used v = v ≡ verdict m used

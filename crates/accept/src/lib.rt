@@ -26,7 +26,7 @@ ghost use Rattle.accept.specs.declared.ExaminedMap.the-variants as exami
 ghost use Rattle.accept.specs.Slots.{withFree};
 ghost use Rattle.judge.specs.Rules.{indexRule};
 ghost use Rattle.accept.specs.Opens.{openedAfter, openedOf, afterOpened, Opens};
-ghost use Rattle.accept.specs.Verdicts.{numberOf, placeOf, afterIndex, verdict};
+ghost use Rattle.accept.specs.Verdicts.{numberOf, placeOf, afterIndex, verdict, Checked};
 
 // What the check answers. Refusals carry document 01's number and place.
 pub enum Verdict {
@@ -170,7 +170,7 @@ fn judge_chains(m: &[u8], used: usize) -> Verdict
 
 // The check of the first `used` bytes of a buffer. Any slice, any `used`.
 pub fn check(m: &[u8], used: usize) -> Verdict
-    ensures { λ r. ⌜ r ≡ verdict (now (m .entry)) used ⌝ }
+    ensures { λ r. ⌜ Checked (now (m .entry)) used r ⌝ }
 {
     let j = judge_header(m, used);
     match j {

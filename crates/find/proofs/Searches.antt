@@ -41,7 +41,7 @@ use Rattle.accept.specs.Verdicts.{headerJudged, verdict}
 use Rattle.accept.proofs.Accepting.{accepted-tells}
 use Rattle.find.specs.declared.SearchAnswer.{SearchAnswer}
 use Rattle.find.specs.declared.SearchAnswer.the-variants.{Found, Short, Refused}
-use Rattle.find.specs.Searches.{numberOf, countOf, checkedLength, wantedAt, liveIn, slotsFor, found, answerFor, answerOf, listFor, listAfter, In}
+use Rattle.find.specs.Searches.{numberOf, countOf, checkedLength, wantedAt, liveIn, slotsFor, found, answerFor, answerOf, listFor, listAfter, Searched, In}
 use Rattle.find.proofs.Selected.{sel-in, sel-ascends, sel-at}
 
 -- ---- which slots are listed
@@ -156,7 +156,7 @@ module _ (m : List ℕ) (used : ℕ) (w : Window) (l : List ℕ) where
   by-answer e = rw e
 
   -- the answer and the list, as the code leaves them
-  pub answers : {a : SearchAnswer} → answerOf m used w (length l) ≡ a → (a ≡ answerOf m used w (length l)) × (listFor a (λ n. found m n w) l ≡ listAfter m used w l)
+  pub answers : {a : SearchAnswer} → answerOf m used w (length l) ≡ a → Searched m used w l a (listFor a (λ n. found m n w) l)
   answers e = (sym e, sym (by-answer e))
 
   pub listed : {c b : ℕ} → answerOf m used w (length l) ≡ Found c b → (i : ℕ) → i < c → getD (listAfter m used w l) i 0 ≡ getD (found m b w) i 0

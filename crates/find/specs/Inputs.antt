@@ -2,8 +2,10 @@
 --     inputGood i           whether the window is whole and the map not longer than that
 --     inputAnswer i room    what is answered: 1 where the input is not good, else the search's answer
 --     inputList i l         what the lent list holds afterwards
+--     SearchedInput i l a after     the result: the answer a, and the list afterwards
 use Prim.Native.Nat.{ℕ, _+_, _-_}
 use mathlib.Core.Bool.{Bool, cond, _&&_}
+use mathlib.Core.Path.{_≡_}
 use mathlib.Core.List.{List}
 use lib.Dec.{leb}
 use lib.ListN.{length, drop}
@@ -25,3 +27,6 @@ inputAnswer i room =
 
 unfoldable pub inputList : List ℕ → List ℕ → List ℕ
 inputList i l = cond (inputGood i) (listAfter (drop windowSize i) (length i - windowSize) (windowOf i) l) l
+
+abbrev pub SearchedInput : List ℕ → List ℕ → SearchAnswer → List ℕ → Type 0
+SearchedInput i l a after = (a ≡ inputAnswer i (length l)) × (after ≡ inputList i l)

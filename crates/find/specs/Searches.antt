@@ -11,6 +11,7 @@
 --     answerFor, answerOf        1 to 7 as the check has them; 8: left > right or bottom > top; 9: the list is shorter than the count
 --     In x l                     x stands in the list l
 --     listAfter m used w l       what the lent list holds afterwards: the slots found in its first entries and the rest as it was; after a refusal all as it was
+--     Searched m used w l a after     the search's result: its answer a, and the list afterwards
 use Prim.Native.Nat.{ℕ, _+_, _*_, _<_}
 use mathlib.Core.Bool.{Bool, cond, _&&_}
 use mathlib.Core.Path.{_≡_}
@@ -93,6 +94,9 @@ listFor (Refused n p) hits l = l
 
 unfoldable pub listAfter : List ℕ → ℕ → Window → List ℕ → List ℕ
 listAfter m used w l = listFor (answerOf m used w (length l)) (λ n. found m n w) l
+
+abbrev pub Searched : List ℕ → ℕ → Window → List ℕ → SearchAnswer → List ℕ → Type 0
+Searched m used w l a after = (a ≡ answerOf m used w (length l)) × (after ≡ listAfter m used w l)
 
 abbrev pub In : ℕ → List ℕ → Type 0
 In x l = (i : ℕ) × (i < length l) × (getD l i 0 ≡ x)

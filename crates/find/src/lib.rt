@@ -19,9 +19,9 @@ ghost use Rattle.windows.specs.declared.Window.{Window};
 ghost use Rattle.windows.specs.Windows.{windowGood};
 ghost use Rattle.accept.specs.Opens.{Open, Opens, openedOf};
 ghost use Rattle.accept.specs.declared.OpenedMap.the-variants.{Blocks};
-ghost use Rattle.find.specs.Searches.{numberOf, placeOf, countOf, blocksOf, checkedLength, answerOf, listAfter};
+ghost use Rattle.find.specs.Searches.{numberOf, placeOf, countOf, blocksOf, checkedLength, answerOf, Searched};
 ghost use Rattle.find.specs.Looks.{blockWords};
-ghost use Rattle.find.specs.Inputs.{inputAnswer, inputList};
+ghost use Rattle.find.specs.Inputs.{SearchedInput};
 
 // What a search answers: the count found and the blocks walked; or the count that the list is too short for; or a refusal.
 pub enum SearchAnswer {
@@ -113,7 +113,7 @@ fn search_words(
     words: &mut [u64],
 ) -> SearchAnswer
     requires { ⌜ Open (now m) used n (now index) × (openedOf (now m) used ≡ Blocks n) × (windowGood w ≡ true) × (blockWords * n ≤ length (now words)) ⌝ }
-    ensures { λ r. ⌜ (r ≡ answerOf (now (m .entry)) used w (length (now (list .entry)))) × (now (list .exit) ≡ listAfter (now (m .entry)) used w (now (list .entry))) ⌝ }
+    ensures { λ r. ⌜ Searched (now (m .entry)) used w (now (list .entry)) r (now (list .exit)) ⌝ }
 {
     let l = look_in_slots(m, used, index, n, w, words);
     if l.bad != 0 {
@@ -148,7 +148,7 @@ fn search_slots(
     list: &mut [u32],
 ) -> SearchAnswer
     requires { ⌜ Open (now m) used n (now index) × (openedOf (now m) used ≡ Blocks n) × (windowGood w ≡ true) ⌝ }
-    ensures { λ r. ⌜ (r ≡ answerOf (now (m .entry)) used w (length (now (list .entry)))) × (now (list .exit) ≡ listAfter (now (m .entry)) used w (now (list .entry))) ⌝ }
+    ensures { λ r. ⌜ Searched (now (m .entry)) used w (now (list .entry)) r (now (list .exit)) ⌝ }
 {
     if n <= FEW {
         let mut words = [0u64; BLOCK_WORDS * FEW];
@@ -172,7 +172,7 @@ fn search_opened(
     list: &mut [u32],
 ) -> SearchAnswer
     requires { ⌜ Opens (now m) used (now index) o × (o ≡ openedOf (now m) used) × (windowGood w ≡ true) ⌝ }
-    ensures { λ r. ⌜ (r ≡ answerOf (now (m .entry)) used w (length (now (list .entry)))) × (now (list .exit) ≡ listAfter (now (m .entry)) used w (now (list .entry))) ⌝ }
+    ensures { λ r. ⌜ Searched (now (m .entry)) used w (now (list .entry)) r (now (list .exit)) ⌝ }
 {
     match o {
         OpenedMap::Refused { number, place } => SearchAnswer::Refused { number, place },
@@ -196,7 +196,7 @@ fn bad_window(m: &[u8], used: usize) -> SearchAnswer
 
 // The search. Any slice, any `used`, any window, any list.
 pub fn search(m: &[u8], used: usize, w: Window, list: &mut [u32]) -> SearchAnswer
-    ensures { λ r. ⌜ (r ≡ answerOf (now (m .entry)) used w (length (now (list .entry)))) × (now (list .exit) ≡ listAfter (now (m .entry)) used w (now (list .entry))) ⌝ }
+    ensures { λ r. ⌜ Searched (now (m .entry)) used w (now (list .entry)) r (now (list .exit)) ⌝ }
 {
     if !window_good(w) {
         return bad_window(m, used);
@@ -216,7 +216,7 @@ pub const PROGRAM_LIMIT: usize = 65536;
 
 // The search on the program's input: a window, then a map.
 pub fn search_input(input: &[u8], list: &mut [u32]) -> SearchAnswer
-    ensures { λ r. ⌜ (r ≡ inputAnswer (now (input .entry)) (length (now (list .entry)))) × (now (list .exit) ≡ inputList (now (input .entry)) (now (list .entry))) ⌝ }
+    ensures { λ r. ⌜ SearchedInput (now (input .entry)) (now (list .entry)) r (now (list .exit)) ⌝ }
 {
     if input.len() < Window::SIZE {
         return SearchAnswer::Refused {
