@@ -14,13 +14,13 @@ use Rattle.accept.proofs.place as place
 
 -- ---- what is said
 
-pub check-says : Says check.ended (λ M 𝓤. check.clauses 𝓤) (λ κs a r e. Checked (now (a .0)) (a .1 .0) r)
+pub check-says : Says check.ended (λ M 𝓤. check.clauses 𝓤) (λ κs (m, (used, _)) r e. Checked (now m) used r)
 check-says M 𝓤 H A mem run = refl
 
-pub number-says : Says number.ended (λ M 𝓤. number.clauses 𝓤) (λ κs a r e. r ≡ numberOf (a .0))
+pub number-says : Says number.ended (λ M 𝓤. number.clauses 𝓤) (λ κs (v, _) r e. r ≡ numberOf v)
 number-says M 𝓤 H A mem run = refl
 
-pub place-says : Says place.ended (λ M 𝓤. place.clauses 𝓤) (λ κs a r e. r ≡ placeOf (a .0))
+pub place-says : Says place.ended (λ M 𝓤. place.clauses 𝓤) (λ κs (v, _) r e. r ≡ placeOf v)
 place-says M 𝓤 H A mem run = refl
 
 -- ---- one answer each

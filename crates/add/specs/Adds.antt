@@ -4,6 +4,7 @@
 --                            chain's last link, or the header's, points
 --     repeatAdd              an add under a number that is held: an add whose slot's object equals the offered bytes is "done before", anything else 14
 --     freshAdd, added        the add: 10, then 11, then 15, then done
+--     Added                  its result: the answer a, and the map m′ and the journal j′ afterwards
 use Prim.Native.Nat.{ℕ, _+_, _*_}
 use mathlib.Core.Bool.{Bool, cond, _&&_}
 use mathlib.Core.List.{List}
@@ -20,10 +21,11 @@ use Rattle.chain.specs.Chains.{place}
 use Rattle.judge.specs.Rules.{slotAt}
 use Rattle.judge.specs.Judging.{versionOf}
 use Rattle.journal.specs.Journals.{isFull, appended}
+use Rattle.edit.specs.declared.EditAnswer.{EditAnswer}
 use Rattle.edit.specs.declared.EditAnswer.the-variants.{Done, Before, Refused}
 use Rattle.accept.specs.Slots.{slotIn, freeSlot}
 use Rattle.add.specs.Objects.{offeredGood, slotFor, blockFor, isObject}
-use Rattle.edit.specs.Edits.{Outcome, saying, begun}
+use Rattle.edit.specs.Edits.{Outcome, Edited, saying, begun}
 
 abbrev pub isFree : List ℕ → ℕ → Bool
 isFree m n = ltb (freeSlot m n) (256 * n)
@@ -63,3 +65,6 @@ freshAdd m used j e o n =
 
 unfoldable pub added : List ℕ → ℕ → List ℕ → ℕ → List ℕ → Outcome
 added m used j e o = begun m used j e (λ n k t. repeatAdd m used j o k t) (λ n. freshAdd m used j e o n)
+
+abbrev pub Added : List ℕ → ℕ → List ℕ → ℕ → List ℕ → EditAnswer → List ℕ → List ℕ → Type 0
+Added m used j e o a m′ j′ = Edited (added m used j e o) a m′ j′

@@ -42,8 +42,8 @@ ghost use Rattle.journal.specs.Journals.{inUse};
 ghost use Rattle.edit.specs.declared.EditAnswer.the-variants.{Refused};
 ghost use Rattle.accept.specs.Slots.{freeSlot};
 ghost use Rattle.add.specs.Objects.{pairLimit, offeredGood, slotFor, blockFor, isObject};
-ghost use Rattle.edit.specs.Edits.{Roomy};
-ghost use Rattle.add.specs.Adds.{newLength, addedMap, repeatAdd, freshAdd, added};
+ghost use Rattle.edit.specs.Edits.{Edited, Roomy};
+ghost use Rattle.add.specs.Adds.{newLength, addedMap, repeatAdd, freshAdd, added, Added};
 
 // Whether an offered object is well formed for a version.
 fn offered_good(version: u16, o: &[u8]) -> bool
@@ -221,9 +221,7 @@ fn add_new(
     s: usize,
 ) -> EditAnswer
     requires { ⌜ (verdict (now map) used ≡ Accepted n) × Ordered indexHead (now map) n (now order) × (n ≤ length (now order)) × (records ≡ inUse (now journal)) × (s ≡ freeSlot (now map) n) ⌝ }
-    ensures answers { λ r. ⌜ r ≡ freshAdd (now (map .entry)) used (now (journal .entry)) edit (now (o .entry)) n .answer ⌝ }
-    ensures maps { λ r. ⌜ now (map .exit) ≡ freshAdd (now (map .entry)) used (now (journal .entry)) edit (now (o .entry)) n .map ⌝ }
-    ensures journals { λ r. ⌜ now (journal .exit) ≡ freshAdd (now (map .entry)) used (now (journal .entry)) edit (now (o .entry)) n .journal ⌝ }
+    ensures { λ r. ⌜ Edited (freshAdd (now (map .entry)) used (now (journal .entry)) edit (now (o .entry)) n) r (now (map .exit)) (now (journal .exit)) ⌝ }
 {
     if !offered_good(u16_at(map, Header::VERSION), o) {
         return refused(10);
@@ -262,9 +260,7 @@ fn add_with(
     order: &mut [u32],
 ) -> EditAnswer
     requires { ⌜ (used ≤ mapLimit → Roomy used (now index) (now order)) × Empty (now index) ⌝ }
-    ensures answers { λ r. ⌜ r ≡ added (now (map .entry)) used (now (journal .entry)) edit (now (o .entry)) .answer ⌝ }
-    ensures maps { λ r. ⌜ now (map .exit) ≡ added (now (map .entry)) used (now (journal .entry)) edit (now (o .entry)) .map ⌝ }
-    ensures journals { λ r. ⌜ now (journal .exit) ≡ added (now (map .entry)) used (now (journal .entry)) edit (now (o .entry)) .journal ⌝ }
+    ensures { λ r. ⌜ Edited (added (now (map .entry)) used (now (journal .entry)) edit (now (o .entry))) r (now (map .exit)) (now (journal .exit)) ⌝ }
 {
     let v = examine(map, used, index);
     let start = begin(map, used, journal, edit, v, order);
@@ -290,9 +286,7 @@ fn add_with(
 // Add: the object is stored at the old end and takes the first free slot, or one in a new block. Any buffer, any `used`, any journal, any edit number, any
 // bytes as object. The tables are as large as the map needs.
 pub fn add(map: &mut [u8], used: usize, journal: &mut [u8], edit: u32, o: &[u8]) -> EditAnswer
-    ensures answers { λ r. ⌜ r ≡ added (now (map .entry)) used (now (journal .entry)) edit (now (o .entry)) .answer ⌝ }
-    ensures maps { λ r. ⌜ now (map .exit) ≡ added (now (map .entry)) used (now (journal .entry)) edit (now (o .entry)) .map ⌝ }
-    ensures journals { λ r. ⌜ now (journal .exit) ≡ added (now (map .entry)) used (now (journal .entry)) edit (now (o .entry)) .journal ⌝ }
+    ensures { λ r. ⌜ Added (now (map .entry)) used (now (journal .entry)) edit (now (o .entry)) r (now (map .exit)) (now (journal .exit)) ⌝ }
 {
     if used <= Header::SMALL {
         let mut index = [0u32; IndexBlock::SMALL_TABLE];

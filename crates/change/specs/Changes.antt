@@ -2,15 +2,17 @@
 --     repeatChange           remove and reinstate under a number that is held: the same kind and slot is "done before", anything else 14
 --     freshChange            remove and reinstate under a new number: 12, then 15, then done, with one Sym written
 --     removed, reinstated    the two, by their kind in the journal: 2 and 3
+--     Removed, Reinstated    their results: the answer a, and the map m′ and the journal j′ afterwards
 use Prim.Native.Nat.{ℕ}
 use mathlib.Core.Bool.{Bool, cond, _&&_}
 use mathlib.Core.List.{List}
 use lib.Dec.{eqb}
 use Rattle.records.specs.Journals.{recordFor}
 use Rattle.journal.specs.Journals.{isFull, appended}
+use Rattle.edit.specs.declared.EditAnswer.{EditAnswer}
 use Rattle.edit.specs.declared.EditAnswer.the-variants.{Done, Before, Refused}
 use Rattle.change.specs.Slots.{withSym, allowedFor, symFor}
-use Rattle.edit.specs.Edits.{Outcome, saying, begun}
+use Rattle.edit.specs.Edits.{Outcome, Edited, saying, begun}
 
 unfoldable pub repeatChange : List ℕ → ℕ → List ℕ → ℕ → ℕ → ℕ → ℕ → Outcome
 repeatChange m used j kind s k t = cond (eqb k kind && eqb t s) (saying m j (Before s used)) (saying m j (Refused 14 0))
@@ -34,3 +36,9 @@ removed m used j e s = changed m used j e 2 s
 
 abbrev pub reinstated : List ℕ → ℕ → List ℕ → ℕ → ℕ → Outcome
 reinstated m used j e s = changed m used j e 3 s
+
+abbrev pub Removed : List ℕ → ℕ → List ℕ → ℕ → ℕ → EditAnswer → List ℕ → List ℕ → Type 0
+Removed m used j e s a m′ j′ = Edited (removed m used j e s) a m′ j′
+
+abbrev pub Reinstated : List ℕ → ℕ → List ℕ → ℕ → ℕ → EditAnswer → List ℕ → List ℕ → Type 0
+Reinstated m used j e s a m′ j′ = Edited (reinstated m used j e s) a m′ j′

@@ -32,8 +32,8 @@ ghost use Rattle.accept.specs.Verdicts.{verdict};
 ghost use Rattle.accept.specs.declared.Verdict.the-variants.{Accepted};
 ghost use Rattle.journal.specs.Journals.{inUse};
 ghost use Rattle.edit.specs.declared.EditAnswer.the-variants.{Refused};
-ghost use Rattle.edit.specs.Edits.{Roomy, Known};
-ghost use Rattle.change.specs.Changes.{repeatChange, freshChange, changed, removed, reinstated};
+ghost use Rattle.edit.specs.Edits.{Edited, Roomy, Known};
+ghost use Rattle.change.specs.Changes.{repeatChange, freshChange, changed, Removed, Reinstated};
 ghost use Rattle.change.specs.NewSyms.{symToReinstate, newSymFor};
 
 // The Sym that a removal or a reinstatement writes, or none where it is not allowed.
@@ -149,9 +149,7 @@ fn change_slot(
     sym: u16,
 ) -> EditAnswer
     requires { ⌜ (used ≤ mapLimit) × (place ≡ slotAt (now map) at) × (place + slotSize ≤ length (now map)) × (records ≡ inUse (now journal)) ⌝ }
-    ensures answers { λ r. ⌜ r ≡ freshChange (now (map .entry)) used (now (journal .entry)) edit kind at true sym .answer ⌝ }
-    ensures maps { λ r. ⌜ now (map .exit) ≡ freshChange (now (map .entry)) used (now (journal .entry)) edit kind at true sym .map ⌝ }
-    ensures journals { λ r. ⌜ now (journal .exit) ≡ freshChange (now (map .entry)) used (now (journal .entry)) edit kind at true sym .journal ⌝ }
+    ensures { λ r. ⌜ Edited (freshChange (now (map .entry)) used (now (journal .entry)) edit kind at true sym) r (now (map .exit)) (now (journal .exit)) ⌝ }
 {
     if is_full(journal, records) {
         return refused(15);
@@ -176,9 +174,7 @@ fn change_with(
     order: &mut [u32],
 ) -> EditAnswer
     requires { ⌜ (used ≤ mapLimit → Roomy used (now index) (now order)) × Empty (now index) ⌝ }
-    ensures answers { λ r. ⌜ r ≡ changed (now (map .entry)) used (now (journal .entry)) edit kind at .answer ⌝ }
-    ensures maps { λ r. ⌜ now (map .exit) ≡ changed (now (map .entry)) used (now (journal .entry)) edit kind at .map ⌝ }
-    ensures journals { λ r. ⌜ now (journal .exit) ≡ changed (now (map .entry)) used (now (journal .entry)) edit kind at .journal ⌝ }
+    ensures { λ r. ⌜ Edited (changed (now (map .entry)) used (now (journal .entry)) edit kind at) r (now (map .exit)) (now (journal .exit)) ⌝ }
 {
     let v = examine(map, used, index);
     let start = begin(map, used, journal, edit, v, order);
@@ -215,9 +211,7 @@ fn change(
     kind: u32,
     at: u32,
 ) -> EditAnswer
-    ensures answers { λ r. ⌜ r ≡ changed (now (map .entry)) used (now (journal .entry)) edit kind at .answer ⌝ }
-    ensures maps { λ r. ⌜ now (map .exit) ≡ changed (now (map .entry)) used (now (journal .entry)) edit kind at .map ⌝ }
-    ensures journals { λ r. ⌜ now (journal .exit) ≡ changed (now (map .entry)) used (now (journal .entry)) edit kind at .journal ⌝ }
+    ensures { λ r. ⌜ Edited (changed (now (map .entry)) used (now (journal .entry)) edit kind at) r (now (map .exit)) (now (journal .exit)) ⌝ }
 {
     if used <= Header::SMALL {
         let mut index = [0u32; IndexBlock::SMALL_TABLE];
@@ -231,18 +225,14 @@ fn change(
 
 // Remove: a live slot's Sym becomes 0. Any buffer, any `used`, any journal, any edit number, any slot.
 pub fn remove(map: &mut [u8], used: usize, journal: &mut [u8], edit: u32, at: u32) -> EditAnswer
-    ensures answers { λ r. ⌜ r ≡ removed (now (map .entry)) used (now (journal .entry)) edit at .answer ⌝ }
-    ensures maps { λ r. ⌜ now (map .exit) ≡ removed (now (map .entry)) used (now (journal .entry)) edit at .map ⌝ }
-    ensures journals { λ r. ⌜ now (journal .exit) ≡ removed (now (map .entry)) used (now (journal .entry)) edit at .journal ⌝ }
+    ensures { λ r. ⌜ Removed (now (map .entry)) used (now (journal .entry)) edit at r (now (map .exit)) (now (journal .exit)) ⌝ }
 {
     change(map, used, journal, edit, JournalRecord::REMOVE, at)
 }
 
 // Reinstate: an erased slot gets its object's Sym. Any buffer, any `used`, any journal, any edit number, any slot.
 pub fn reinstate(map: &mut [u8], used: usize, journal: &mut [u8], edit: u32, at: u32) -> EditAnswer
-    ensures answers { λ r. ⌜ r ≡ reinstated (now (map .entry)) used (now (journal .entry)) edit at .answer ⌝ }
-    ensures maps { λ r. ⌜ now (map .exit) ≡ reinstated (now (map .entry)) used (now (journal .entry)) edit at .map ⌝ }
-    ensures journals { λ r. ⌜ now (journal .exit) ≡ reinstated (now (map .entry)) used (now (journal .entry)) edit at .journal ⌝ }
+    ensures { λ r. ⌜ Reinstated (now (map .entry)) used (now (journal .entry)) edit at r (now (map .exit)) (now (journal .exit)) ⌝ }
 {
     change(map, used, journal, edit, JournalRecord::REINSTATE, at)
 }

@@ -121,9 +121,9 @@ module _ (m : List ℕ) (used : ℕ) (j : List ℕ) (e : ℕ) where
 -- ---- the outcome
 
 -- its three parts
-pub parts : {a b : Outcome} → a ≡ b → (b .answer ≡ a .answer) × ((b .map ≡ a .map) × (b .journal ≡ a .journal))
-parts e = (sym (ap (λ (o : Outcome). o .answer) e), (sym (ap (λ (o : Outcome). o .map) e), sym (ap (λ (o : Outcome). o .journal) e)))
+pub parts : {a b : Outcome} → a ≡ b → (b .answer ≡ a .answer) × (b .map ≡ a .map) × (b .journal ≡ a .journal)
+parts e = (sym (ap (λ (o : Outcome). o .answer) e), sym (ap (λ (o : Outcome). o .map) e), sym (ap (λ (o : Outcome). o .journal) e))
 
 -- of one that changes nothing, where r is its answer
-pub said : {m jn : List ℕ} {r a : EditAnswer} {w : Outcome} → r ≡ a → w ≡ saying m jn a → (r ≡ w .answer) × ((m ≡ w .map) × (jn ≡ w .journal))
-said q e = let p = parts e in (q ∙ p .0, p .1)
+pub said : {m jn : List ℕ} {r a : EditAnswer} {w : Outcome} → r ≡ a → w ≡ saying m jn a → (r ≡ w .answer) × (m ≡ w .map) × (jn ≡ w .journal)
+said q e = let p = parts e in (q ∙ p .0, p .1, p .2)

@@ -2,9 +2,11 @@
 -- and the journal as they were; a refusal and "done before" change nothing.
 --     numberOf, placeOf, beforeOf, slotNo, lengthOf     document 01's values of an answer. In a refusal slot and length are 0
 --     Outcome                the answer, and every byte of the map's buffer and of the journal afterwards
+--     Edited o a m j         the result of an edit whose outcome is o: its answer a, and the map m and the journal j afterwards
 --     startOf, begun         1 to 7; then 13; then a number that is held (`repeat`, with the record's kind and slot) or a new one (`fresh`)
 --     Roomy, Known           for the contracts within the edits: what the lent tables have room for, and what they tell of a map
 use Prim.Native.Nat.{ℕ, _+_, _*_, _≤_, _<_}
+use mathlib.Core.Path.{_≡_}
 use mathlib.Core.List.{List}
 use lib.ListN.{length}
 use Rattle.records.specs.Sizes.{headerSize, indexBlockSize, indexPage}
@@ -52,6 +54,9 @@ pub record Outcome : Type 0 where
   pub answer : EditAnswer
   pub map : List ℕ
   pub journal : List ℕ
+
+abbrev pub Edited : Outcome → EditAnswer → List ℕ → List ℕ → Type 0
+Edited o a m j = (a ≡ o .answer) × (m ≡ o .map) × (j ≡ o .journal)
 
 -- an answer that changes nothing
 abbrev pub saying : List ℕ → List ℕ → EditAnswer → Outcome

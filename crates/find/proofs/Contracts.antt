@@ -21,25 +21,26 @@ use Rattle.find.proofs.checked_length as checked-length
 -- ---- what is said
 
 pub search-says : Says search.ended (λ M 𝓤. search.clauses 𝓤)
-    (λ κs a r e. Searched (now (a .0)) (a .1 .0) (a .1 .1 .0) (now (a .1 .1 .1 .0)) r (now (e .1 .1 .1 .0)))
+    (λ κs (m, (used, (w, (l, _)))) r (_, (_, (_, (after, _)))). Searched (now m) used w (now l) r (now after))
 search-says M 𝓤 H A mem run = refl
 
-pub search-input-says : Says search-input.ended (λ M 𝓤. search-input.clauses 𝓤) (λ κs a r e. SearchedInput (now (a .0)) (now (a .1 .0)) r (now (e .1 .0)))
+pub search-input-says : Says search-input.ended (λ M 𝓤. search-input.clauses 𝓤)
+    (λ κs (i, (l, _)) r (_, (after, _)). SearchedInput (now i) (now l) r (now after))
 search-input-says M 𝓤 H A mem run = refl
 
-pub number-says : Says number.ended (λ M 𝓤. number.clauses 𝓤) (λ κs a r e. r ≡ numberOf (a .0))
+pub number-says : Says number.ended (λ M 𝓤. number.clauses 𝓤) (λ κs (a, _) r e. r ≡ numberOf a)
 number-says M 𝓤 H A mem run = refl
 
-pub place-says : Says place.ended (λ M 𝓤. place.clauses 𝓤) (λ κs a r e. r ≡ placeOf (a .0))
+pub place-says : Says place.ended (λ M 𝓤. place.clauses 𝓤) (λ κs (a, _) r e. r ≡ placeOf a)
 place-says M 𝓤 H A mem run = refl
 
-pub count-says : Says count.ended (λ M 𝓤. count.clauses 𝓤) (λ κs a r e. r ≡ countOf (a .0))
+pub count-says : Says count.ended (λ M 𝓤. count.clauses 𝓤) (λ κs (a, _) r e. r ≡ countOf a)
 count-says M 𝓤 H A mem run = refl
 
-pub blocks-says : Says blocks.ended (λ M 𝓤. blocks.clauses 𝓤) (λ κs a r e. r ≡ blocksOf (a .0))
+pub blocks-says : Says blocks.ended (λ M 𝓤. blocks.clauses 𝓤) (λ κs (a, _) r e. r ≡ blocksOf a)
 blocks-says M 𝓤 H A mem run = refl
 
-pub checked-length-says : Says checked-length.ended (λ M 𝓤. checked-length.clauses 𝓤) (λ κs a r e. r ≡ checkedLength (now (a .0)) (a .1 .0))
+pub checked-length-says : Says checked-length.ended (λ M 𝓤. checked-length.clauses 𝓤) (λ κs (m, (used, _)) r e. r ≡ checkedLength (now m) used)
 checked-length-says M 𝓤 H A mem run = refl
 
 -- ---- one answer each

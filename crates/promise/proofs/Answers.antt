@@ -1,75 +1,73 @@
--- One answer each: every statement is an equation for each part of the result. Assumes nothing.
-use mathlib.Core.Path.{_≡_, sym, _∙_}
+-- One answer each: by the laws of the calls' results, each in its crate. Results whose fields are equal are equal. Assumes nothing.
+use mathlib.Core.Path.{_≡_}
 use mathlib.Core.List.{List}
 use Prim.Native.Nat.{ℕ}
-use Rattle.find.specs.declared.SearchAnswer.{SearchAnswer}
+use Rattle.accept.proofs.Contracts.{one, check-one}
+use Rattle.find.proofs.Contracts.{search-one, search-input-one}
+use Rattle.view.proofs.Contracts.{view-one, find-in-one, search-view-one}
 use Rattle.edit.specs.Edits.{Outcome}
-use Rattle.promise.specs.Answers.{One, Searched, Edit, CEdit, OneAnswer}
+use Rattle.edit.specs.declared.EditAnswer.{EditAnswer}
+use Rattle.add.proofs.Contracts.{add-one}
+use Rattle.change.proofs.Contracts.{remove-one, reinstate-one}
+use Rattle.taffrail.specs.Calls.{windowFrom}
+use Rattle.taffrail.proofs.Contracts as taffrail
+use Rattle.promise.specs.Answers.{SearchResult, CEditResult, OneAnswer}
 
--- what equals one thing is one
-same : {A : Type 0} {x a b : A} → a ≡ x → b ≡ x → a ≡ b
-same p q = p ∙ sym q
+searched : {a b : SearchResult} → (a .answer ≡ b .answer) × (a .list ≡ b .list) → a ≡ b
+searched e = λ i. record { answer = e .0 i; list = e .1 i }
 
-one-number : (n : ℕ) → One (λ r. r ≡ n)
-one-number n a b p q = same p q
+edited : {a b : Outcome} → (a .answer ≡ b .answer) × (a .map ≡ b .map) × (a .journal ≡ b .journal) → a ≡ b
+edited e = λ i. record { answer = e .0 i; map = e .1 i; journal = e .2 i }
 
-one-search : (x : SearchAnswer) (l : List ℕ) → One (λ (r : Searched). (r .answer ≡ x) × (r .list ≡ l))
-one-search x l a b p q = λ i. record { answer = same (p .0) (q .0) i; list = same (p .1) (q .1) i }
-
-one-edit : (o : Outcome) → One (Edit o)
-one-edit o a b p q =
+c-edited : {a b : CEditResult}
+    → (a .number ≡ b .number) × (a .place ≡ b .place) × (a .before ≡ b .before) × (a .slot ≡ b .slot) × (a .newLength ≡ b .newLength) × (a .map ≡ b .map) × (a .journal ≡ b .journal)
+    → a ≡ b
+c-edited e =
     λ i. record {
-      answer = same (p .0) (q .0) i;
-      map = same (p .1) (q .1) i;
-      journal = same (p .2) (q .2) i;
-    }
-
-one-c-edit : (o : Outcome) → One (CEdit o)
-one-c-edit o a b p q =
-    λ i. record {
-      number = same (p .0 .is-number) (q .0 .is-number) i;
-      place = same (p .0 .is-place) (q .0 .is-place) i;
-      before = same (p .0 .is-before) (q .0 .is-before) i;
-      slot = same (p .0 .is-slot) (q .0 .is-slot) i;
-      length = same (p .0 .is-length) (q .0 .is-length) i;
-      map = same (p .1) (q .1) i;
-      journal = same (p .2) (q .2) i;
+      number = e .0 i;
+      place = e .1 i;
+      before = e .2 i;
+      slot = e .3 i;
+      newLength = e .4 i;
+      map = e .5 i;
+      journal = e .6 i;
     }
 
 pub one-answer : OneAnswer
 one-answer =
     record {
-      check = λ m used a b p q. same p q;
-      check-number = λ v. one-number _;
-      check-place = λ v. one-number _;
-      search = λ m used w l. one-search _ _;
-      search-input = λ i l. one-search _ _;
-      search-number = λ a. one-number _;
-      search-place = λ a. one-number _;
-      search-count = λ a. one-number _;
-      search-blocks = λ a. one-number _;
-      checked-length = λ m used. one-number _;
-      view = λ bytes used a b p q. λ i. record { bytes = same (p .0) (q .0) i; used = same (p .1) (q .1) i };
-      find-in = λ v w l. one-search _ _;
-      search-view = λ m used w l. one-search _ _;
-      add = λ m used j e o. one-edit _;
-      remove = λ m used j e s. one-edit _;
-      reinstate = λ m used j e s. one-edit _;
-      edit-number = λ a. one-number _;
-      edit-place = λ a. one-number _;
-      edit-before = λ a. one-number _;
-      edit-slot = λ a. one-number _;
-      edit-length = λ a. one-number _;
-      taffrail-check = λ m used a b p q. λ i. record { number = same (p .0) (q .0) i; place = same (p .1) (q .1) i };
+      check = λ m used a b p q. check-one m used p q;
+      check-number = λ v a b. one;
+      check-place = λ v a b. one;
+      search = λ m used w l a b p q. searched (search-one m used w l p q);
+      search-input = λ i l a b p q. searched (search-input-one i l p q);
+      search-number = λ x a b. one;
+      search-place = λ x a b. one;
+      search-count = λ x a b. one;
+      search-blocks = λ x a b. one;
+      checked-length = λ m used a b. one;
+      view = λ bytes used a b p q. view-one bytes used p q;
+      find-in = λ v w l a b p q. searched (find-in-one v w l p q);
+      search-view = λ m used w l a b p q. searched (search-view-one m used w l p q);
+      add = λ m used j e o a b p q. edited (add-one m used j e o p q);
+      remove = λ m used j e s a b p q. edited (remove-one m used j e s p q);
+      reinstate = λ m used j e s a b p q. edited (reinstate-one m used j e s p q);
+      edit-number = λ x a b. one;
+      edit-place = λ x a b. one;
+      edit-before = λ x a b. one;
+      edit-slot = λ x a b. one;
+      edit-length = λ x a b. one;
+      taffrail-check = λ m used a b p q. let e = taffrail.check-one m used p q in λ i. record { number = e .0 i; place = e .1 i };
       taffrail-search = λ m used left bottom right top l a b p q.
+          let e = taffrail.search-one m used (windowFrom left bottom right top) l p q in
           λ i. record {
-            number = same (p .0) (q .0) i;
-            place = same (p .1) (q .1) i;
-            count = same (p .2) (q .2) i;
-            blocks = same (p .3) (q .3) i;
-            list = same (p .4) (q .4) i;
+            number = e .0 i;
+            place = e .1 i;
+            count = e .2 i;
+            blocks = e .3 i;
+            list = e .4 i;
           };
-      taffrail-add = λ m used j e o. one-c-edit _;
-      taffrail-remove = λ m used j e s. one-c-edit _;
-      taffrail-reinstate = λ m used j e s. one-c-edit _;
+      taffrail-add = λ m used j e o a b p q. c-edited (taffrail.add-one m used j e o p q);
+      taffrail-remove = λ m used j e s a b p q. c-edited (taffrail.remove-one m used j e s p q);
+      taffrail-reinstate = λ m used j e s a b p q. c-edited (taffrail.reinstate-one m used j e s p q);
     }

@@ -1,21 +1,12 @@
 // The C interface. A slice passes as a pointer and then its length, a `&mut u32` as a pointer. Every call takes any bytes and numbers at all, returns
 // document 01's number, and writes every out parameter, on a refusal too. hosts/include/taffrail.h is its declaration for C.
 use windows::Window;
-ghost use mathlib.Core.Path.{_≡_};
-ghost use lib.ListN.{length};
-ghost use Rattle.accept.specs.Verdicts.{verdict};
-ghost use Rattle.accept.specs.Verdicts as verdicts;
-ghost use Rattle.find.specs.Searches.{answerOf, listAfter, countOf, blocksOf};
-ghost use Rattle.find.specs.Searches as searches;
-ghost use Rattle.add.specs.Adds.{added};
-ghost use Rattle.change.specs.Changes.{removed, reinstated};
-ghost use Rattle.edit.specs.Edits.{numberOf, placeOf};
-ghost use Rattle.taffrail.specs.Calls.{windowFrom, Wrote};
+ghost use Rattle.taffrail.specs.Calls.{windowFrom, CChecked, CSearched, Wrote, CAdded, CRemoved, CReinstated};
 
 // The check.
 #[no_mangle]
 pub extern "C" fn taffrail_check(map: &[u8], used: usize, place: &mut u32) -> u32
-    ensures { λ r. ⌜ (r ≡ verdicts.numberOf (verdict (now (map .entry)) used)) × (now (place .exit) ≡ verdicts.placeOf (verdict (now (map .entry)) used)) ⌝ }
+    ensures { λ r. ⌜ CChecked (now (map .entry)) used r (now (place .exit)) ⌝ }
 {
     let v = accept::check(map, used);
     *place = accept::place(v);
@@ -36,11 +27,8 @@ pub extern "C" fn taffrail_search(
     count: &mut u32,
     blocks: &mut u32,
 ) -> u32
-    ensures numbers { λ r. ⌜ r ≡ searches.numberOf (answerOf (now (map .entry)) used (windowFrom left bottom right top) (length (now (list .entry)))) ⌝ }
-    ensures places { λ r. ⌜ now (place .exit) ≡ searches.placeOf (answerOf (now (map .entry)) used (windowFrom left bottom right top) (length (now (list .entry)))) ⌝ }
-    ensures counts { λ r. ⌜ now (count .exit) ≡ countOf (answerOf (now (map .entry)) used (windowFrom left bottom right top) (length (now (list .entry)))) ⌝ }
-    ensures walks { λ r. ⌜ now (blocks .exit) ≡ blocksOf (answerOf (now (map .entry)) used (windowFrom left bottom right top) (length (now (list .entry)))) ⌝ }
-    ensures lists { λ r. ⌜ now (list .exit) ≡ listAfter (now (map .entry)) used (windowFrom left bottom right top) (now (list .entry)) ⌝ }
+    ensures { λ r. ⌜ CSearched (now (map .entry)) used (windowFrom left bottom right top) (now (list .entry)) r
+        (now (place .exit)) (now (count .exit)) (now (blocks .exit)) (now (list .exit)) ⌝ }
 {
     let w = Window {
         left,
@@ -61,14 +49,14 @@ fn tell(
     place: &mut u32,
     before: &mut u32,
     slot: &mut u32,
-    length: &mut u32,
+    new_length: &mut u32,
 ) -> u32
-    ensures { λ r. ⌜ Wrote a r (now (place .exit)) (now (before .exit)) (now (slot .exit)) (now (length .exit)) ⌝ }
+    ensures { λ r. ⌜ Wrote a r (now (place .exit)) (now (before .exit)) (now (slot .exit)) (now («new_length» .exit)) ⌝ }
 {
     *place = edit::place(a);
     *before = edit::before(a);
     *slot = edit::slot(a);
-    *length = edit::length(a);
+    *new_length = edit::length(a);
     edit::number(a)
 }
 
@@ -83,14 +71,13 @@ pub extern "C" fn taffrail_add(
     place: &mut u32,
     before: &mut u32,
     slot: &mut u32,
-    length: &mut u32,
+    new_length: &mut u32,
 ) -> u32
-    ensures answers { λ r. ⌜ Wrote (added (now (map .entry)) used (now (journal .entry)) edit (now (object .entry)) .answer) r (now (place .exit)) (now (before .exit)) (now (slot .exit)) (now (length .exit)) ⌝ }
-    ensures maps { λ r. ⌜ now (map .exit) ≡ added (now (map .entry)) used (now (journal .entry)) edit (now (object .entry)) .map ⌝ }
-    ensures journals { λ r. ⌜ now (journal .exit) ≡ added (now (map .entry)) used (now (journal .entry)) edit (now (object .entry)) .journal ⌝ }
+    ensures { λ r. ⌜ CAdded (now (map .entry)) used (now (journal .entry)) edit (now (object .entry)) r
+        (now (place .exit)) (now (before .exit)) (now (slot .exit)) (now («new_length» .exit)) (now (map .exit)) (now (journal .exit)) ⌝ }
 {
     let a = add::add(map, used, journal, edit, object);
-    tell(a, place, before, slot, length)
+    tell(a, place, before, slot, new_length)
 }
 
 // Remove the object of a slot.
@@ -104,14 +91,13 @@ pub extern "C" fn taffrail_remove(
     place: &mut u32,
     before: &mut u32,
     slot: &mut u32,
-    length: &mut u32,
+    new_length: &mut u32,
 ) -> u32
-    ensures answers { λ r. ⌜ Wrote (removed (now (map .entry)) used (now (journal .entry)) edit at .answer) r (now (place .exit)) (now (before .exit)) (now (slot .exit)) (now (length .exit)) ⌝ }
-    ensures maps { λ r. ⌜ now (map .exit) ≡ removed (now (map .entry)) used (now (journal .entry)) edit at .map ⌝ }
-    ensures journals { λ r. ⌜ now (journal .exit) ≡ removed (now (map .entry)) used (now (journal .entry)) edit at .journal ⌝ }
+    ensures { λ r. ⌜ CRemoved (now (map .entry)) used (now (journal .entry)) edit at r
+        (now (place .exit)) (now (before .exit)) (now (slot .exit)) (now («new_length» .exit)) (now (map .exit)) (now (journal .exit)) ⌝ }
 {
     let a = change::remove(map, used, journal, edit, at);
-    tell(a, place, before, slot, length)
+    tell(a, place, before, slot, new_length)
 }
 
 // Reinstate the object of a slot.
@@ -125,12 +111,11 @@ pub extern "C" fn taffrail_reinstate(
     place: &mut u32,
     before: &mut u32,
     slot: &mut u32,
-    length: &mut u32,
+    new_length: &mut u32,
 ) -> u32
-    ensures answers { λ r. ⌜ Wrote (reinstated (now (map .entry)) used (now (journal .entry)) edit at .answer) r (now (place .exit)) (now (before .exit)) (now (slot .exit)) (now (length .exit)) ⌝ }
-    ensures maps { λ r. ⌜ now (map .exit) ≡ reinstated (now (map .entry)) used (now (journal .entry)) edit at .map ⌝ }
-    ensures journals { λ r. ⌜ now (journal .exit) ≡ reinstated (now (map .entry)) used (now (journal .entry)) edit at .journal ⌝ }
+    ensures { λ r. ⌜ CReinstated (now (map .entry)) used (now (journal .entry)) edit at r
+        (now (place .exit)) (now (before .exit)) (now (slot .exit)) (now («new_length» .exit)) (now (map .exit)) (now (journal .exit)) ⌝ }
 {
     let a = change::reinstate(map, used, journal, edit, at);
-    tell(a, place, before, slot, length)
+    tell(a, place, before, slot, new_length)
 }

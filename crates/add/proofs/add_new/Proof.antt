@@ -121,7 +121,7 @@ returns-5 c =
       ← k .before .before .before .before .before .before .before .before .pre .4,
       ← w .before .new .ensures,
     )
-    (refl, (w .before .before .before .before .before .write-added .ensures, w .append .ensures))
+    (refl, w .before .before .before .before .before .write-added .ensures, w .append .ensures)
 
 pub add-new-spec : {M : Type 1} → statement M
 add-new-spec =

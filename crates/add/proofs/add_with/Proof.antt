@@ -64,8 +64,9 @@ returns-2 c =
     let g = c .before .before .before .before in
     let a = start (g .before .before .before .before) .args in
     let f = g .start2 .given .0 in
+    let k = repeat-keeps (now (a .map)) (a .used) (now (a .journal)) (now (a .o)) (f .1 .0) (f .1 .1 .0) in
     rw (added-held (now (a .map)) (a .used) (now (a .journal)) (a .edit) (now (a .o)) (f .0) (f .1 .0) (f .1 .1 .0) (held g))
-    (c .repeat-add .ensures (now (a .journal)), repeat-keeps (now (a .map)) (a .used) (now (a .journal)) (now (a .o)) (f .1 .0) (f .1 .1 .0))
+    (c .repeat-add .ensures (now (a .journal)), k .0, k .1)
 
 returns-3 : tie.Need-returns-3
 returns-3 c =

@@ -40,10 +40,8 @@ returns-2 c =
     let a = s .args in
     let e = parts (fresh-done (now (a .map)) (a .used) (now (a .journal)) (a .edit) (a .kind) (a .at) (a .sym) (room f)) in (
       e .0,
-      (
-        (rw (s .pre .1) at (p .put-sym .ensures)) ∙ e .1 .0,
-        w .append .ensures ∙ ap (appended (now (a .journal))) (w .before .new .ensures) ∙ e .1 .1,
-      ),
+      (rw (s .pre .1) at (p .put-sym .ensures)) ∙ e .1,
+      w .append .ensures ∙ ap (appended (now (a .journal))) (w .before .new .ensures) ∙ e .2,
     )
 
 pub change-slot-spec : {M : Type 1} → statement M

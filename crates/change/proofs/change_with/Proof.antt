@@ -125,10 +125,8 @@ returns-2 c =
     let t = w .start2 .given .0 .1 .1 .0 in
     let e = parts (changed-held (now (a .map)) (a .used) (now (a .journal)) (a .edit) (a .kind) (a .at) (held w)) in (
       c .repeat-change .ensures (now (a .map)) (now (a .journal)) ∙ e .0,
-      (
-        sym (repeat-map (now (a .map)) (a .used) (now (a .journal)) (a .kind) (a .at) k t) ∙ e .1 .0,
-        sym (repeat-journal (now (a .map)) (a .used) (now (a .journal)) (a .kind) (a .at) k t) ∙ e .1 .1,
-      ),
+      sym (repeat-map (now (a .map)) (a .used) (now (a .journal)) (a .kind) (a .at) k t) ∙ e .1,
+      sym (repeat-journal (now (a .map)) (a .used) (now (a .journal)) (a .kind) (a .at) k t) ∙ e .2,
     )
 
 returns-3 : tie.Need-returns-3
@@ -146,7 +144,7 @@ returns-4 c =
     let w = y .before .before .before .before .before .before .before in
     let a = start (w .before .before .before .before) .args in
     let e = parts (changed-write (now (a .map)) (a .used) (now (a .journal)) (a .edit) (a .kind) (a .at) (new w) (write y)) in
-    (k .change-slot .ensures .0 ∙ e .0, (k .change-slot .ensures .1 .0 ∙ e .1 .0, k .change-slot .ensures .1 .1 ∙ e .1 .1))
+    (k .change-slot .ensures .0 ∙ e .0, k .change-slot .ensures .1 ∙ e .1, k .change-slot .ensures .2 ∙ e .2)
 
 pub change-with-spec : {M : Type 1} → statement M
 change-with-spec =

@@ -6,7 +6,7 @@ use Rattle.taffrail.proofs.taffrail_add.Tie as tie
 returns : tie.Need-returns
 returns c =
     let d = c .before .before .before .before .before .before .before .before .before .add in
-    (rw (d .ensures .0) at (c .tell .ensures), (d .ensures .1 .0, d .ensures .1 .1))
+    (rw (d .ensures .0) at (c .tell .ensures), d .ensures .1, d .ensures .2)
 
 pub taffrail-add-spec : {M : Type 1} → statement M
 taffrail-add-spec =

@@ -27,10 +27,10 @@ returns c =
     let a = rw (same s) at (k .search .ensures .0) in
     let l = rw (same s) at (k .search .ensures .1) in (
       c .number .ensures ∙ ap numberOf a,
-      (
-        c .before .before .before .place .ensures ∙ ap placeOf a,
-        (c .before .before .count .ensures ∙ ap countOf a, (c .before .blocks2 .ensures ∙ ap blocksOf a, l)),
-      ),
+      c .before .before .before .place .ensures ∙ ap placeOf a,
+      c .before .before .count .ensures ∙ ap countOf a,
+      c .before .blocks2 .ensures ∙ ap blocksOf a,
+      l,
     )
 
 pub taffrail-search-spec : {M : Type 1} → statement M

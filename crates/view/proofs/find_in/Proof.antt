@@ -43,6 +43,7 @@ use denote.Triple.Walked.{says, Stays, stay-none, gave-slice, walkOf, goes-none,
 use denote.Triple.Clauses.{ensured, lasts}
 use denote.Exit.{yes}
 use Rattle.view.specs.declared.MapView.{MapView}
+use Rattle.view.specs.Views.{FoundIn}
 use Rattle.find.specs.declared.SearchAnswer.{SearchAnswer}
 use Rattle.windows.specs.declared.Window.{Window}
 use Rattle.view.proofs.MapView as T
@@ -55,7 +56,7 @@ use Rattle.find.proofs.search as search
 use Rattle.find.proofs.search.Symbol as search-def
 use Rattle.find.proofs.search.Symbol.{name as #find·search}
 use Rattle.find.proofs.search.Met as search-thm
-use Rattle.view.proofs.Lent.{Search, Searched, lists, valueOf, OwnWindow, window-twice, tokens}
+use Rattle.view.proofs.Lent.{Search, lists, valueOf, OwnWindow, window-twice, tokens}
 use Rattle.view.proofs.find_in.Key.{name as #view·find-in}
 use Rattle.view.proofs.find_in as find-in
 use Rattle.view.proofs.find_in.Statement as stated
@@ -91,7 +92,7 @@ module _ {M : Type 1} (𝓤 : URA M) (H : Heap 𝓤) (A : Atoms 𝓤) (W : Given
 
   -- what is known of the answer and of the list afterwards
   abbrev Known : SearchAnswer → List ℕ → Type 0
-  Known = Searched (now (d .bytes)) (d .used) w ys
+  Known = FoundIn d w ys
 
   abbrev Arg : Type 0
   Arg = MapView × (Window × (RefT (List ℕ) × Unit {0}))

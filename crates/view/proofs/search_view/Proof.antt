@@ -41,6 +41,7 @@ use denote.Triple.Clauses.{ensured, lasts}
 use denote.Exit.{yes}
 use Rattle.find.specs.Searches.{checkedLength}
 use Rattle.view.specs.declared.MapView.{MapView}
+use Rattle.view.specs.Views.{Viewed, SearchedView}
 use Rattle.find.specs.declared.SearchAnswer.{SearchAnswer}
 use Rattle.windows.specs.declared.Window.{Window}
 use Rattle.view.proofs.MapView as T
@@ -57,7 +58,7 @@ use Rattle.view.proofs.find_in as find-in
 use Rattle.view.proofs.find_in.Symbol as find-in-def
 use Rattle.view.proofs.find_in.Symbol.{name as #view·find-in}
 use Rattle.view.proofs.find_in.Met as find-in-thm
-use Rattle.view.proofs.Lent.{View, FindIn, Searched, lists, valueOf, OwnBytes, OwnWindow, bytes-twice, window-twice, tokens}
+use Rattle.view.proofs.Lent.{View, FindIn, lists, valueOf, OwnBytes, OwnWindow, bytes-twice, window-twice, tokens}
 use Rattle.view.proofs.search_view.Key.{name as #view·search-view}
 use Rattle.view.proofs.search_view as search-view
 use Rattle.view.proofs.search_view.Statement as stated
@@ -91,10 +92,10 @@ module _ {M : Type 1} (𝓤 : URA M) (H : Heap 𝓤) (A : Atoms 𝓤) (W : Given
 
   -- what is known of the view, of the answer and of the list afterwards
   abbrev Made : MapView → Type 0
-  Made r = (r .bytes ≡ y) × (r .used ≡ checkedLength (now y) n)
+  Made = Viewed y n
 
   abbrev Known : SearchAnswer → List ℕ → Type 0
-  Known = Searched (now y) (checkedLength (now y) n) w ys
+  Known = SearchedView (now y) n w ys
 
   abbrev Arg : Type 0
   Arg = RefT (List ℕ) × (ℕ × (Window × (RefT (List ℕ) × Unit {0})))
