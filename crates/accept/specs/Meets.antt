@@ -19,7 +19,7 @@ use Rattle.numbers.specs.Bytes.{u16At, u32At}
 use Rattle.numbers.specs.Coordinates.{valueOf}
 use Rattle.records.specs.declared.Part.{Part}
 use Rattle.slots.specs.declared.Slot.{Slot}
-use Rattle.records.specs.Sizes.{headerSize, mapLimit, indexBlockSize, slotSize, symbolBlockSize, entrySize}
+use Rattle.records.specs.Sizes.{headerSize, mapLimit, indexBlockSize, slotSize, symbolBlockSize, entrySize, blockCells}
 use Rattle.records.specs.Headers.{partOf, pairGood, setupAt, infoAt, indexHead, symbolHead}
 use Rattle.slots.specs.Slots.{slotOf, stateOf, lenGood, pairsOf, bytesIn}
 use Rattle.slots.specs.Objects.{objectOf, typeGood}
@@ -49,7 +49,7 @@ pub record Chain (m : List ℕ) (used h n : ℕ) (bs : List ℕ) : Type 0 where
   pub apart : (i k : ℕ) → i < k → k < length bs → Apart (getD bs i 0) n (getD bs k 0) n
 
 abbrev pub cellOf : List ℕ → ℕ → ℕ → ℕ
-cellOf bs w c = cellIn (getD bs (c / 256) 0) w (c % 256)
+cellOf bs w c = cellIn (getD bs (c / blockCells) 0) w (c % blockCells)
 
 pub record GoodRecord (m : List ℕ) (used : ℕ) (index : List ℕ) (q : ℕ) : Type 0 where
   pub start : Inside used q 2
@@ -88,9 +88,9 @@ pub record Meets (m : List ℕ) (used n : ℕ) : Type 0 where
   pub symbols : List ℕ
   pub symbol : Chain m used symbolHead symbolBlockSize symbols
   pub off-index : (k : ℕ) → k < length symbols → Off blocks indexBlockSize (getD symbols k 0) symbolBlockSize
-  pub entries : (e : ℕ) → e < 256 * length symbols → (u32At m (cellOf symbols entrySize e) ≡ 0 → ⊥) → GoodRecord m used blocks (u32At m (cellOf symbols entrySize e))
+  pub entries : (e : ℕ) → e < blockCells * length symbols → (u32At m (cellOf symbols entrySize e) ≡ 0 → ⊥) → GoodRecord m used blocks (u32At m (cellOf symbols entrySize e))
   -- 7: each live slot
-  pub slots : (s : ℕ) → s < 256 * length blocks → isLive (stateOf (slotOf m (cellOf blocks slotSize s))) ≡ true → GoodLive m used blocks (slotOf m (cellOf blocks slotSize s))
+  pub slots : (s : ℕ) → s < blockCells * length blocks → isLive (stateOf (slotOf m (cellOf blocks slotSize s))) ≡ true → GoodLive m used blocks (slotOf m (cellOf blocks slotSize s))
 
 abbrev pub AcceptedExactly : Type 0
 AcceptedExactly = (m : List ℕ) (used n : ℕ) → (Meets m used n → verdict m used ≡ Accepted n) × (verdict m used ≡ Accepted n → Meets m used n)

@@ -11,7 +11,7 @@ use lib.Dec.{ltb}
 use Rattle.numbers.specs.Below.{first}
 use Rattle.slots.specs.declared.Slot.{Slot}
 use Rattle.slots.specs.declared.State.the-variants.{Free}
-use Rattle.records.specs.Sizes.{slotSize}
+use Rattle.records.specs.Sizes.{slotSize, blockCells}
 use Rattle.slots.specs.Slots.{slotOf, stateOf, sameState}
 use Rattle.chain.specs.Cells.{cellIn}
 use Rattle.accept.specs.declared.Verdict.{Verdict}
@@ -25,7 +25,7 @@ unfoldable pub slotIn : List ℕ → ℕ → Slot
 slotIn m s = slotOf m (slotAt m s)
 
 unfoldable pub freeSlot : List ℕ → ℕ → ℕ
-freeSlot m n = first (λ s. sameState Free (stateOf (slotIn m s))) (256 * n)
+freeSlot m n = first (λ s. sameState Free (stateOf (slotIn m s))) (blockCells * n)
 
 abbrev pub firstFree : Bool → ℕ → ℕ → ℕ
 firstFree true free s = cond (ltb s free) s free

@@ -29,6 +29,7 @@ use Rattle.accept.specs.declared.JudgedMap.{JudgedMap}
 use Rattle.accept.specs.declared.JudgedMap.the-variants.{Good, Bad}
 use Rattle.judge.specs.Rules.{Family, narrow, indexRule, symbolRuleOf, touchesOf, slotAtOf, entryAt}
 use Rattle.judge.specs.Judging.{lengthGood, partGood}
+use Rattle.records.specs.Sizes.{blockCells}
 
 abbrev pub numberOf : Verdict → ℕ
 numberOf (Accepted n) = 0
@@ -65,14 +66,14 @@ firstOf Good j = j
 firstOf (Bad n p) j = Bad n p
 
 unfoldable pub entriesJudgedOf : Family → List ℕ → ℕ → ℕ → ℕ → JudgedMap
-entriesJudgedOf f m used n k = cellsJudged 6 (λ e. f .entryAtFault (touchesOf f m n) m used (entryAt m e)) (entryAt m) (256 * k)
+entriesJudgedOf f m used n k = cellsJudged 6 (λ e. f .entryAtFault (touchesOf f m n) m used (entryAt m e)) (entryAt m) (blockCells * k)
 
 unfoldable pub symbolsJudgedOf : Family → List ℕ → ℕ → ℕ → JudgedMap
 symbolsJudgedOf f m used n =
     firstOf (entriesJudgedOf f m used n (taken (symbolRuleOf f m n) m used)) (linkJudged (walked (symbolRuleOf f m n) m used))
 
 unfoldable pub slotsJudgedOf : Family → List ℕ → ℕ → ℕ → JudgedMap
-slotsJudgedOf f m used n = cellsJudged 7 (λ s. f .slotAtFault (touchesOf f m n) m used (slotAtOf f m s)) (slotAtOf f m) (256 * n)
+slotsJudgedOf f m used n = cellsJudged 7 (λ s. f .slotAtFault (touchesOf f m n) m used (slotAtOf f m s)) (slotAtOf f m) (blockCells * n)
 
 unfoldable pub afterIndexOf : Family → List ℕ → ℕ → Walk → Verdict
 afterIndexOf f m used (Blocks n) = unless (symbolsJudgedOf f m used n) (unless (slotsJudgedOf f m used n) (Accepted n))

@@ -11,7 +11,7 @@ use records::SymbolBlock;
 ghost use mathlib.Core.Path.{_≡_};
 ghost use Prim.Native.Nat.{_+_, _*_, _≤_, _<_};
 ghost use lib.ListN.{length};
-ghost use Rattle.records.specs.Sizes.{headerSize, indexBlockSize, indexPage, symbolBlockSize, symbolPage, entrySize, smallMap, middleMap};
+ghost use Rattle.records.specs.Sizes.{headerSize, indexBlockSize, indexPage, symbolBlockSize, symbolPage, entrySize, smallMap, middleMap, blockCells};
 ghost use Rattle.records.specs.Headers.{indexHead};
 ghost use Rattle.chain.specs.Chains.{taken};
 ghost use Rattle.chain.specs.Cells.{cellIn};
@@ -25,7 +25,8 @@ ghost use Rattle.accept.specs.Verdicts.{cellsJudged, entriesJudged, symb
 // 6, of one symbol block: the first entry at fault.
 fn judge_block_entries(m: &[u8], used: usize, index: &[u32], block: usize) -> JudgedMap
     requires { ⌜ (block + symbolBlockSize ≤ used) × Indexed (now m) used (now index) ⌝ }
-    ensures { λ r. ⌜ r ≡ cellsJudged 6 (λ e. badEntry (endsMeet indexBlockSize (now (index .entry))) (now (m .entry)) used (cellIn block entrySize e)) (cellIn block entrySize) 256 ⌝ }
+    ensures { λ r. ⌜ r
+        ≡ cellsJudged 6 (λ e. badEntry (endsMeet indexBlockSize (now (index .entry))) (now (m .entry)) used (cellIn block entrySize e)) (cellIn block entrySize) blockCells ⌝ }
 {
     let mut at = block + LINK;
     let mut e = 0usize;
@@ -45,7 +46,8 @@ fn judge_block_entries(m: &[u8], used: usize, index: &[u32], block: usize) -> Ju
 
 // 6, of the first k symbol blocks: the first entry at fault.
 fn judge_entries(m: &[u8], used: usize, index: &[u32], n: usize, k: usize) -> JudgedMap
-    requires { ⌜ (headerSize ≤ used) × Indexed (now m) used (now index) × EndsTable indexBlockSize indexHead indexPage (now m) n (now index) × (k ≡ taken (symbolRule (now m) n) (now m) used) ⌝ }
+    requires { ⌜ (headerSize ≤ used) × Indexed (now m) used (now index) × EndsTable indexBlockSize indexHead indexPage (now m) n (now index)
+        × (k ≡ taken (symbolRule (now m) n) (now m) used) ⌝ }
     ensures { λ r. ⌜ r ≡ entriesJudged (now (m .entry)) used n k ⌝ }
 {
     let mut at = Header::SYMBOLS;
@@ -66,7 +68,8 @@ fn judge_entries(m: &[u8], used: usize, index: &[u32], n: usize, k: usize) -> Ju
 
 // 6: the symbol blocks and their entries. A table for the blocks is lent, empty before.
 fn judge_symbol_blocks(m: &[u8], used: usize, index: &[u32], n: usize, t: &mut [u32]) -> JudgedMap
-    requires { ⌜ (headerSize ≤ used) × Indexed (now m) used (now index) × EndsTable indexBlockSize indexHead indexPage (now m) n (now index) × (used + symbolPage ≤ length (now t) * symbolPage) × Empty (now t) ⌝ }
+    requires { ⌜ (headerSize ≤ used) × Indexed (now m) used (now index) × EndsTable indexBlockSize indexHead indexPage (now m) n (now index)
+        × (used + symbolPage ≤ length (now t) * symbolPage) × Empty (now t) ⌝ }
     ensures { λ r. ⌜ r ≡ symbolsJudged (now (m .entry)) used n ⌝ }
 {
     let w = walk_chain(m, used, symbol_kind(), index, t);
@@ -87,7 +90,8 @@ fn judge_symbol_blocks(m: &[u8], used: usize, index: &[u32], n: usize, t: &mut [
 
 // 6, of a small map. Each size of the table stands in a function of its own: so the compiler gives them the same room.
 fn small_symbols(m: &[u8], used: usize, index: &[u32], n: usize) -> JudgedMap
-    requires { ⌜ (headerSize ≤ used) × (used ≤ smallMap) × Indexed (now m) used (now index) × EndsTable indexBlockSize indexHead indexPage (now m) n (now index) ⌝ }
+    requires { ⌜ (headerSize ≤ used) × (used ≤ smallMap) × Indexed (now m) used (now index)
+        × EndsTable indexBlockSize indexHead indexPage (now m) n (now index) ⌝ }
     ensures { λ r. ⌜ r ≡ symbolsJudged (now (m .entry)) used n ⌝ }
 {
     let mut t = [0u32; SymbolBlock::SMALL_TABLE];
@@ -96,7 +100,8 @@ fn small_symbols(m: &[u8], used: usize, index: &[u32], n: usize) -> JudgedMap
 
 // 6, of a map of middle size.
 fn middle_symbols(m: &[u8], used: usize, index: &[u32], n: usize) -> JudgedMap
-    requires { ⌜ (headerSize ≤ used) × (used ≤ middleMap) × Indexed (now m) used (now index) × EndsTable indexBlockSize indexHead indexPage (now m) n (now index) ⌝ }
+    requires { ⌜ (headerSize ≤ used) × (used ≤ middleMap) × Indexed (now m) used (now index)
+        × EndsTable indexBlockSize indexHead indexPage (now m) n (now index) ⌝ }
     ensures { λ r. ⌜ r ≡ symbolsJudged (now (m .entry)) used n ⌝ }
 {
     let mut t = [0u32; SymbolBlock::MIDDLE_TABLE];

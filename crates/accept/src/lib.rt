@@ -74,7 +74,8 @@ pub fn place(v: Verdict) -> u32
 
 // 6, of a map whose index blocks are good. Their table is filled first.
 fn open_symbols(m: &[u8], used: usize, index: &mut [u32], n: usize) -> OpenedMap
-    requires { ⌜ (headerSize ≤ used) × (used ≤ mapLimit) × (used ≤ length (now m)) × (used + indexPage ≤ length (now index) * indexPage) × (walked (indexRule (now m)) (now m) used ≡ Blocks n) × Placed indexPage (now index) × Table indexHead indexPage (now m) n (now index) ⌝ }
+    requires { ⌜ (headerSize ≤ used) × (used ≤ mapLimit) × (used ≤ length (now m)) × (used + indexPage ≤ length (now index) * indexPage)
+        × (walked (indexRule (now m)) (now m) used ≡ Blocks n) × Placed indexPage (now index) × Table indexHead indexPage (now m) n (now index) ⌝ }
     ensures { λ r. ⌜ (r ≡ openedAfter (now (m .entry)) used (Blocks n)) × Opens (now (m .entry)) used (now (index .exit)) r ⌝ }
 {
     fill(
@@ -92,7 +93,8 @@ fn open_symbols(m: &[u8], used: usize, index: &mut [u32], n: usize) -> OpenedMap
 // 5, then 6.
 fn open_index(m: &[u8], used: usize, index: &mut [u32]) -> OpenedMap
     requires { ⌜ (headerSize ≤ used) × (used ≤ mapLimit) × (used ≤ length (now m)) × (used + indexPage ≤ length (now index) * indexPage) × Empty (now index) ⌝ }
-    ensures { λ r. ⌜ (r ≡ openedAfter (now (m .entry)) used (walked (indexRule (now (m .entry))) (now (m .entry)) used)) × Opens (now (m .entry)) used (now (index .exit)) r ⌝ }
+    ensures { λ r. ⌜ (r ≡ openedAfter (now (m .entry)) used (walked (indexRule (now (m .entry))) (now (m .entry)) used))
+        × Opens (now (m .entry)) used (now (index .exit)) r ⌝ }
 {
     let none = [0u32; 2];
     let w = walk_chain(m, used, index_kind(Header::of(m)), &none, index);
@@ -131,7 +133,9 @@ fn examine_opened(m: &[u8], used: usize, index: &[u32], o: OpenedMap) -> Examine
 // The check, with a lent table, empty before, that has the index blocks, filled, afterwards where the map is accepted.
 pub fn examine(m: &[u8], used: usize, index: &mut [u32]) -> ExaminedMap
     requires { ⌜ (used ≤ mapLimit → used + indexPage ≤ length (now index) * indexPage) × Empty (now index) ⌝ }
-    ensures { λ r. ⌜ (r ≡ withFree (now (m .entry)) (verdict (now (m .entry)) used)) × ((n free : ℕ) → r ≡ examined.Accepted n free → Filled indexBlockSize indexPage used (now (index .exit)) × EndsTable indexBlockSize indexHead indexPage (now (m .entry)) n (now (index .exit))) ⌝ }
+    ensures { λ r. ⌜ (r ≡ withFree (now (m .entry)) (verdict (now (m .entry)) used))
+        × ((n free : ℕ) → r ≡ examined.Accepted n free → Filled indexBlockSize indexPage used (now (index .exit))
+        × EndsTable indexBlockSize indexHead indexPage (now (m .entry)) n (now (index .exit))) ⌝ }
 {
     let o = open_map(m, used, index);
     examine_opened(m, used, index, o)

@@ -13,7 +13,7 @@ use lib.ListN.{length}
 use lib.Seq.{sets}
 use Rattle.numbers.specs.Bytes.{bytesOf}
 use Rattle.slots.specs.declared.Slot.{Slot}
-use Rattle.records.specs.Sizes.{indexBlockSize, mapLimit}
+use Rattle.records.specs.Sizes.{indexBlockSize, mapLimit, blockCells}
 use Rattle.records.specs.Headers.{indexHead}
 use Rattle.slots.specs.Slots.{slotBytes}
 use Rattle.records.specs.Journals.{recordFor}
@@ -28,7 +28,7 @@ use Rattle.add.specs.Objects.{offeredGood, slotFor, blockFor, isObject}
 use Rattle.edit.specs.Edits.{Outcome, Edited, saying, begun}
 
 abbrev pub isFree : List ℕ → ℕ → Bool
-isFree m n = ltb (freeSlot m n) (256 * n)
+isFree m n = ltb (freeSlot m n) (blockCells * n)
 
 unfoldable pub newLength : List ℕ → ℕ → ℕ → List ℕ → ℕ
 newLength m used n o = cond (isFree m n) (used + length o) (used + length o + indexBlockSize)

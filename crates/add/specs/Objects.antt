@@ -6,14 +6,14 @@
 --     blockFor t              an index block, zeroed but for slot 0, which is t
 --     isObject m used t o     whether slot t's object starts at 48 or later, lies inside and equals o. It has Len bytes in 6 and 7 whatever Len is, and 32 + 8 x
 --                             Len in 8
-use Prim.Native.Nat.{ℕ, _+_, _*_}
+use Prim.Native.Nat.{ℕ, _+_, _-_, _*_}
 use mathlib.Core.Bool.{Bool, not, cond, _&&_}
 use mathlib.Core.List.{List, _++_}
 use lib.Dec.{eqb, leb}
 use lib.ListN.{length, take, drop, replicate}
 use Rattle.numbers.specs.Bytes.{sameBytes}
 use Rattle.slots.specs.declared.Slot.{Slot}
-use Rattle.records.specs.Sizes.{objectHeaderSize, pairSize}
+use Rattle.records.specs.Sizes.{objectHeaderSize, pairSize, linkSize, indexBlockSize, slotSize, mostPairs8, mostPairs7}
 use Rattle.slots.specs.Slots.{slotBytes, bytesIn, lenOf}
 use Rattle.slots.specs.Objects.{objectOf, typeGood}
 use Rattle.windows.specs.Rectangles.{rectangleOf}
@@ -24,7 +24,7 @@ abbrev pub pairsIn : List ℕ → ℕ
 pairsIn o = objectOf o .items + objectOf o .texts
 
 abbrev pub pairLimit : ℕ → ℕ
-pairLimit v = cond (eqb v 8) 32768 8187
+pairLimit v = cond (eqb v 8) mostPairs8 mostPairs7
 
 unfoldable pub offeredGood : ℕ → List ℕ → Bool
 offeredGood v o =
@@ -46,7 +46,7 @@ slotFor v o p =
     }
 
 unfoldable pub blockFor : Slot → List ℕ
-blockFor t = replicate 4 0 ++ (slotBytes t ++ replicate 6120 0)
+blockFor t = replicate linkSize 0 ++ (slotBytes t ++ replicate (indexBlockSize - linkSize - slotSize) 0)
 
 unfoldable pub isObject : List ℕ → ℕ → Slot → List ℕ → Bool
 isObject m used t o =

@@ -29,7 +29,7 @@ ghost use Prim.Native.Nat.{ℕ, _+_, _*_, _≤_, _<_};
 ghost use lib.ListN.{length};
 ghost use lib.Seq.{sets};
 ghost use Rattle.numbers.specs.Bytes.{bytesOf};
-ghost use Rattle.records.specs.Sizes.{headerSize, indexBlockSize, slotSize, mapLimit};
+ghost use Rattle.records.specs.Sizes.{headerSize, indexBlockSize, slotSize, mapLimit, blockCells, linkSize};
 ghost use Rattle.records.specs.Headers.{indexHead};
 ghost use Rattle.slots.specs.Slots.{slotOf, slotBytes};
 ghost use Rattle.chain.specs.Chains.{place};
@@ -128,7 +128,7 @@ fn repeat_add(
     kind: u32,
     slot: u32,
 ) -> EditAnswer
-    requires { ⌜ (verdict (now m) used ≡ Accepted n) × Ordered indexHead (now m) n (now order) × (n ≤ length (now order)) × (slot < 256 * n) ⌝ }
+    requires { ⌜ (verdict (now m) used ≡ Accepted n) × Ordered indexHead (now m) n (now order) × (n ≤ length (now order)) × (slot < blockCells * n) ⌝ }
     ensures { λ r. ⌜ ((j : List ℕ) → r ≡ repeatAdd (now (m .entry)) used j (now (o .entry)) kind slot .answer) ⌝ }
 {
     if kind != JournalRecord::ADD {
@@ -164,8 +164,10 @@ fn put_block(part: &mut [u8], t: Slot)
 
 // The object at the old end, a new block with its slot behind it, and the link that points to the block.
 fn write_in_block(map: &mut [u8], used: usize, o: &[u8], link: usize, t: Slot)
-    requires { ⌜ (used + length (now o) + indexBlockSize ≤ length (now map)) × (used + length (now o) + indexBlockSize ≤ mapLimit) × (link + 4 ≤ length (now map)) ⌝ }
-    ensures { λ r. ⌜ now (map .exit) ≡ sets (sets (sets (now (map .entry)) used (now (o .entry))) (used + length (now (o .entry))) (blockFor t)) link (bytesOf 4 (used + length (now (o .entry)))) ⌝ }
+    requires { ⌜ (used + length (now o) + indexBlockSize ≤ length (now map)) × (used + length (now o) + indexBlockSize ≤ mapLimit)
+        × (link + linkSize ≤ length (now map)) ⌝ }
+    ensures { λ r. ⌜ now (map .exit)
+        ≡ sets (sets (sets (now (map .entry)) used (now (o .entry))) (used + length (now (o .entry))) (blockFor t)) link (bytesOf linkSize (used + length (now (o .entry)))) ⌝ }
 {
     copy_in(&mut map[used..], o);
     let block = used + o.len();
@@ -186,7 +188,9 @@ fn last_link(order: &[u32], n: usize) -> usize
 
 // The map after an add of a well-formed object to the first free slot, or to a new block.
 fn write_added(map: &mut [u8], used: usize, order: &[u32], n: usize, s: usize, o: &[u8])
-    requires { ⌜ (verdict (now map) used ≡ Accepted n) × Ordered indexHead (now map) n (now order) × (n ≤ length (now order)) × (s ≡ freeSlot (now map) n) × (offeredGood (versionOf (now map)) (now o) ≡ true) × (newLength (now map) used n (now o) ≤ mapLimit) × (newLength (now map) used n (now o) ≤ length (now map)) ⌝ }
+    requires { ⌜ (verdict (now map) used ≡ Accepted n) × Ordered indexHead (now map) n (now order) × (n ≤ length (now order)) × (s ≡ freeSlot (now map) n)
+        × (offeredGood (versionOf (now map)) (now o) ≡ true) × (newLength (now map) used n (now o) ≤ mapLimit)
+        × (newLength (now map) used n (now o) ≤ length (now map)) ⌝ }
     ensures { λ r. ⌜ now (map .exit) ≡ addedMap (now (map .entry)) used n (now (o .entry)) ⌝ }
 {
     let t = slot_for(u16_at(map, Header::VERSION), o, used as u32);
@@ -220,7 +224,8 @@ fn add_new(
     records: usize,
     s: usize,
 ) -> EditAnswer
-    requires { ⌜ (verdict (now map) used ≡ Accepted n) × Ordered indexHead (now map) n (now order) × (n ≤ length (now order)) × (records ≡ inUse (now journal)) × (s ≡ freeSlot (now map) n) ⌝ }
+    requires { ⌜ (verdict (now map) used ≡ Accepted n) × Ordered indexHead (now map) n (now order) × (n ≤ length (now order))
+        × (records ≡ inUse (now journal)) × (s ≡ freeSlot (now map) n) ⌝ }
     ensures { λ r. ⌜ Edited (freshAdd (now (map .entry)) used (now (journal .entry)) edit (now (o .entry)) n) r (now (map .exit)) (now (journal .exit)) ⌝ }
 {
     if !offered_good(u16_at(map, Header::VERSION), o) {

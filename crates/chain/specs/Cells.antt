@@ -7,12 +7,13 @@ use mathlib.Core.List.{List}
 use mathlib.Core.Path.{_≡_}
 use lib.ListN.{getD}
 use Rattle.chain.specs.Chains.{block}
+use Rattle.records.specs.Sizes.{linkSize, blockCells}
 
 unfoldable pub cellIn : ℕ → ℕ → ℕ → ℕ
-cellIn b w j = b + 4 + w * j
+cellIn b w j = b + linkSize + w * j
 
 unfoldable pub cellAt : ℕ → ℕ → List ℕ → ℕ → ℕ
-cellAt h w m c = cellIn (block h m (c / 256)) w (c % 256)
+cellAt h w m c = cellIn (block h m (c / blockCells)) w (c % blockCells)
 
 abbrev pub Ordered : ℕ → List ℕ → ℕ → List ℕ → Type 0
 Ordered h m n o = (k : ℕ) → k < n → getD o k 0 ≡ block h m k

@@ -28,7 +28,7 @@ use lib.ListN.{getD, length}
 use lib.Dec.{eqb}
 use Rattle.numbers.specs.Ranges.{share}
 use Rattle.numbers.specs.Below.{any}
-use Rattle.records.specs.Sizes.{headerSize, mapLimit}
+use Rattle.records.specs.Sizes.{headerSize, mapLimit, linkSize}
 use Rattle.chain.specs.declared.Kind.{Kind}
 use Rattle.chain.specs.Chains.{Rule, block, inside}
 
@@ -90,7 +90,7 @@ goodBlock r t used p = inside used (r .size) p && not (r .taboo p) && not (table
 
 pub record Bounds (k : Kind) (end : ℕ) (other : List ℕ) : Type 0 where
   pub most : end ≤ mapLimit
-  pub block-least : 4 ≤ k .size
+  pub block-least : linkSize ≤ k .size
   pub block-most : k .size ≤ 65536
   pub first-fits : k .first < 4294967296
   pub first-size-fits : k .«first_size» < 4294967296
@@ -105,7 +105,7 @@ pub record Bounds (k : Kind) (end : ℕ) (other : List ℕ) : Type 0 where
 pub record Ready (k : Kind) (used : ℕ) (other t : List ℕ) : Type 0 where
   pub bounds : Bounds k used other
   pub least : headerSize ≤ used
-  pub head-in : k .head + 4 ≤ headerSize
+  pub head-in : k .head + linkSize ≤ headerSize
   pub page-least : 0 < k .page
   pub page-most : k .page ≤ k .size
   pub wide : used + k .page ≤ length t * k .page

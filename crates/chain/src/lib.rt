@@ -7,6 +7,7 @@ ghost use lib.ListN.{length, getD};
 ghost use Rattle.chain.specs.Chains.{block, walked, taken};
 ghost use Rattle.chain.specs.Tables.{Empty, Placed, Table, Carried, Filled, entryMeets, tableMeets, endsMeet, keepsOff, kindRule, goodBlock, Bounds, Ready};
 ghost use Rattle.chain.specs.Cells.{Ordered};
+ghost use Rattle.records.specs.Sizes.{linkSize, mapLimit};
 
 // What a walk answers: the number of blocks; or the place of the first link at fault, and the number of blocks before it.
 pub enum Walk {
@@ -36,7 +37,7 @@ fn wide(x: u32) -> usize
 
 // Whether entry b shares a byte with the range.
 fn entry_meets(t: &[u32], size: usize, b: usize, start: usize, len: usize) -> bool
-    requires { ⌜ (b < length (now t)) × (size ≤ 65536) × (start + len ≤ 16777216) ⌝ }
+    requires { ⌜ (b < length (now t)) × (size ≤ 65536) × (start + len ≤ mapLimit) ⌝ }
     ensures { λ r. ⌜ r ≡ entryMeets size (now (t .entry)) start len b ⌝ }
 {
     let e = wide(t[b]);
@@ -48,7 +49,7 @@ fn entry_meets(t: &[u32], size: usize, b: usize, start: usize, len: usize) -> bo
 
 // Whether some block taken so far shares a byte with the range: only the pages in which such a block can start are looked at.
 fn meets_taken(t: &[u32], page: usize, size: usize, start: usize, len: usize) -> bool
-    requires { ⌜ (0 < page) × (size ≤ 65536) × (0 < len) × (start + len ≤ 16777216) × (start + len + page ≤ length (now t) * page) × Placed page (now t) ⌝ }
+    requires { ⌜ (0 < page) × (size ≤ 65536) × (0 < len) × (start + len ≤ mapLimit) × (start + len + page ≤ length (now t) * page) × Placed page (now t) ⌝ }
     ensures { λ r. ⌜ r ≡ tableMeets size (now (t .entry)) start len ⌝ }
 {
     let last = (start + len - 1) / page + 1;
@@ -84,7 +85,8 @@ pub fn fill(t: &mut [u32], k: usize, size: u32)
 // Whether some block of a filled table shares a byte with the range, whatever its length: of the blocks that start before the range's end the last one also
 // ends last. The entry behind the range's last page tells it, unless that block starts behind the range; then the entry before does.
 pub fn meets_block(t: &[u32], page: usize, size: usize, start: usize, len: usize) -> bool
-    requires { ⌜ (0 < page) × (0 < size) × (size ≤ 65536) × (0 < len) × (start + len ≤ 16777216) × (start + len + page ≤ length (now t) * page) × Filled size page (start + len) (now t) ⌝ }
+    requires { ⌜ (0 < page) × (0 < size) × (size ≤ 65536) × (0 < len) × (start + len ≤ mapLimit) × (start + len + page ≤ length (now t) * page)
+        × Filled size page (start + len) (now t) ⌝ }
     ensures { λ r. ⌜ r ≡ endsMeet size (now (t .entry)) start len ⌝ }
 {
     let end = start + len;
@@ -135,7 +137,8 @@ fn can_be_block(kind: Kind, other: &[u32], t: &[u32], used: usize, p: usize) -> 
 // The walk over a chain. The table is empty before, and has the blocks that were taken after, each at its own page.
 pub fn walk_chain(m: &[u8], used: usize, kind: Kind, other: &[u32], t: &mut [u32]) -> Walk
     requires { ⌜ (used ≤ length (now m)) × Ready kind used (now other) (now t) × Empty (now t) ⌝ }
-    ensures { λ r. ⌜ (r ≡ walked (kindRule kind (now (other .entry))) (now (m .entry)) used) × Placed (kind .page) (now (t .exit)) × Table (kind .head) (kind .page) (now (m .entry)) (taken (kindRule kind (now (other .entry))) (now (m .entry)) used) (now (t .exit)) ⌝ }
+    ensures { λ r. ⌜ (r ≡ walked (kindRule kind (now (other .entry))) (now (m .entry)) used) × Placed (kind .page) (now (t .exit))
+        × Table (kind .head) (kind .page) (now (m .entry)) (taken (kindRule kind (now (other .entry))) (now (m .entry)) used) (now (t .exit)) ⌝ }
 {
     let page = kind.page;
     let mut n = 0;
@@ -160,7 +163,7 @@ pub fn walk_chain(m: &[u8], used: usize, kind: Kind, other: &[u32], t: &mut [u32
 
 // The blocks of a chain in their order, so that a cell is found in one step.
 pub fn order_blocks(m: &[u8], head: usize, n: usize, order: &mut [u32])
-    requires { ⌜ (head + 4 ≤ length (now m)) × ((k : ℕ) → k < n → block head (now m) k + 4 ≤ length (now m)) × (n ≤ length (now order)) ⌝ }
+    requires { ⌜ (head + linkSize ≤ length (now m)) × ((k : ℕ) → k < n → block head (now m) k + linkSize ≤ length (now m)) × (n ≤ length (now order)) ⌝ }
     ensures { λ r. ⌜ Ordered head (now (m .entry)) n (now (order .exit)) ⌝ }
 {
     let mut at = head;

@@ -16,15 +16,16 @@ use Rattle.numbers.specs.Bytes.{u16At, bytesOf}
 use Rattle.slots.specs.declared.Slot.{Slot}
 use Rattle.slots.specs.declared.State.{State}
 use Rattle.slots.specs.declared.State.the-variants.{Erased, Live}
-use Rattle.slots.specs.Slots.{stateOf, sameState}
+use Rattle.slots.specs.Slots.{stateOf, sameState, symAt}
 use Rattle.accept.specs.declared.Verdict.{Verdict}
 use Rattle.accept.specs.declared.Verdict.the-variants.{Accepted, Refused}
 use Rattle.judge.specs.Rules.{slotAt}
 unfoldable pub use Rattle.accept.specs.Slots.{slotIn, freeSlot}
 use Rattle.accept.specs.Verdicts.{verdict}
+use Rattle.records.specs.Sizes.{blockCells}
 
 unfoldable pub hasState : State → List ℕ → ℕ → ℕ → Bool
-hasState k m n s = ltb s (256 * n) && sameState k (stateOf (slotIn m s))
+hasState k m n s = ltb s (blockCells * n) && sameState k (stateOf (slotIn m s))
 
 abbrev pub resym : Slot → ℕ → Slot
 resym t y =
@@ -39,7 +40,7 @@ resym t y =
     }
 
 unfoldable pub withSym : List ℕ → ℕ → ℕ → List ℕ
-withSym m s y = sets m (slotAt m s + 22) (bytesOf 2 y)
+withSym m s y = sets m (slotAt m s + symAt) (bytesOf 2 y)
 
 unfoldable pub objectSym : List ℕ → ℕ → ℕ
 objectSym m s = u16At m (slotIn m s .position)

@@ -35,6 +35,7 @@ ghost use Rattle.edit.specs.declared.EditAnswer.the-variants.{Refused};
 ghost use Rattle.edit.specs.Edits.{Edited, Roomy, Known};
 ghost use Rattle.change.specs.Changes.{repeatChange, freshChange, changed, Removed, Reinstated};
 ghost use Rattle.change.specs.NewSyms.{symToReinstate, newSymFor};
+ghost use Rattle.slots.specs.Slots.{symAt};
 
 // The Sym that a removal or a reinstatement writes, or none where it is not allowed.
 pub enum NewSym {
@@ -82,7 +83,8 @@ fn sym_for(
     kind: u32,
     at: u32,
 ) -> NewSym
-    requires { ⌜ (verdict (now m) used ≡ Accepted n) × Known (now m) used n (now index) (now order) × (used + indexPage ≤ length (now index) * indexPage) × (n ≤ length (now order)) ⌝ }
+    requires { ⌜ (verdict (now m) used ≡ Accepted n) × Known (now m) used n (now index) (now order) × (used + indexPage ≤ length (now index) * indexPage)
+        × (n ≤ length (now order)) ⌝ }
     ensures { λ r. ⌜ r ≡ newSymFor kind (now (m .entry)) used n at ⌝ }
 {
     let s = at as usize;
@@ -131,7 +133,7 @@ fn repeat_change(used: usize, kind: u32, at: u32, held: u32, slot: u32) -> EditA
 // The Sym of the slot at a place.
 fn put_sym(map: &mut [u8], place: usize, sym: u16)
     requires { ⌜ place + slotSize ≤ length (now map) ⌝ }
-    ensures { λ r. ⌜ now (map .exit) ≡ sets (now (map .entry)) (place + 22) (bytesOf 2 sym) ⌝ }
+    ensures { λ r. ⌜ now (map .exit) ≡ sets (now (map .entry)) (place + symAt) (bytesOf 2 sym) ⌝ }
 {
     put_u16_at(map, place + Slot::SYM, sym);
 }

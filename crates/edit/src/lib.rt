@@ -1,5 +1,5 @@
-// What the three edits of a map under its journal have in common: their answers, and how they start. Each decides first, on the map and the journal as they are,
-// and writes after.
+// What the three edits of a map under its journal have in common: their answers, and how they start. Each decides first, on the map and the journal as they
+// are, and writes after.
 use accept::ExaminedMap;
 use chain::order_blocks;
 use journal::JournalLook;
@@ -126,7 +126,8 @@ pub fn begin(
     order: &mut [u32],
 ) -> EditStart
     requires { ⌜ (v ≡ withFree (now m) (verdict (now m) used)) × (used ≤ mapLimit → used < headerSize + indexBlockSize * (length (now order) + 1)) ⌝ }
-    ensures { λ r. ⌜ (r ≡ startOf (now (m .entry)) used (now (j .entry)) e) × ((n : ℕ) → verdict (now (m .entry)) used ≡ Accepted n → Ordered indexHead (now (m .entry)) n (now (order .exit))) ⌝ }
+    ensures { λ r. ⌜ (r ≡ startOf (now (m .entry)) used (now (j .entry)) e)
+        × ((n : ℕ) → verdict (now (m .entry)) used ≡ Accepted n → Ordered indexHead (now (m .entry)) n (now (order .exit))) ⌝ }
 {
     match v {
         ExaminedMap::Refused { number, place } => EditStart::Refused { number, place },

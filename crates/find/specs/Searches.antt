@@ -20,7 +20,7 @@ use lib.Dec.{ltb}
 use lib.ListN.{length, getD}
 use lib.Seq.{sets}
 use Rattle.numbers.specs.Below.{sel}
-use Rattle.records.specs.Sizes.{slotSize}
+use Rattle.records.specs.Sizes.{slotSize, blockCells}
 use Rattle.windows.specs.declared.Window.{Window}
 use Rattle.slots.specs.declared.State.{State}
 use Rattle.slots.specs.declared.State.the-variants.{Live}
@@ -65,13 +65,13 @@ abbrev pub wantedIn : List ℕ → State → Window → ℕ → Bool
 wantedIn m k w s = wantedAt m k w (slotAt m s)
 
 abbrev pub SlotsOf : List ℕ → ℕ → ℕ → Type 0
-SlotsOf m b first = (j : ℕ) → j < 256 → slotAt m (first + j) ≡ cellIn b slotSize j
+SlotsOf m b first = (j : ℕ) → j < blockCells → slotAt m (first + j) ≡ cellIn b slotSize j
 
 abbrev pub liveIn : List ℕ → Window → ℕ → Bool
 liveIn m w s = wantedIn m Live w s
 
 unfoldable pub slotsFor : (ℕ → Bool) → ℕ → List ℕ
-slotsFor test n = sel test (256 * n)
+slotsFor test n = sel test (blockCells * n)
 
 abbrev pub selected : List ℕ → ℕ → State → Window → List ℕ
 selected m n k w = slotsFor (wantedIn m k w) n

@@ -13,7 +13,7 @@ ghost use mathlib.Core.Path.{_≡_};
 ghost use Prim.Native.Nat.{_+_, _*_, _≤_, _<_};
 ghost use lib.ListN.{length};
 ghost use Rattle.numbers.specs.Below.{first, sel};
-ghost use Rattle.records.specs.Sizes.{indexBlockSize, mostBlocks, slotSize, mapLimit};
+ghost use Rattle.records.specs.Sizes.{indexBlockSize, mostBlocks, slotSize, mapLimit, blockCells};
 ghost use Rattle.windows.specs.declared.Window.{Window};
 ghost use Rattle.bits.specs.Bits.{bitsFrom, wordBits};
 ghost use Rattle.chain.specs.Cells.{cellIn};
@@ -41,7 +41,8 @@ const HIGH: u64 = 9223372036854775808;
 // A word's slots in a row, from a place on: judged, and looked at, up to the first at fault.
 fn look_in_word(m: &[u8], used: usize, version: u16, index: &[u32], from: usize, w: Window) -> Word
     requires { ⌜ (from + wordBits * slotSize ≤ used) × Indexed (now m) used (now index) ⌝ }
-    ensures { λ r. ⌜ (r .bad ≡ first (λ j. badSlot (endsMeet indexBlockSize (now (index .entry))) (now (m .entry)) used version (slotFrom from j)) wordBits) × (r .bad ≡ wordBits → r .bits ≡ bitsFrom (liveFrom (now (m .entry)) w from) 0 wordBits) ⌝ }
+    ensures { λ r. ⌜ (r .bad ≡ first (λ j. badSlot (endsMeet indexBlockSize (now (index .entry))) (now (m .entry)) used version (slotFrom from j)) wordBits)
+        × (r .bad ≡ wordBits → r .bits ≡ bitsFrom (liveFrom (now (m .entry)) w from) 0 wordBits) ⌝ }
 {
     let mut at = from;
     let mut bits = 0u64;
@@ -70,8 +71,8 @@ pub struct Looked {
     pub count: usize,
 }
 
-// The 256 slots of index block k: judged, and looked at, up to the first at fault; 256 where none is. So many were found before, in the blocks before. The slots' bits
-// go to the block's words.
+// The 256 slots of index block k: judged, and looked at, up to the first at fault; 256 where none is. So many were found before, in the blocks before. The
+// slots' bits go to the block's words.
 fn look_in_block(
     m: &[u8],
     used: usize,
@@ -83,8 +84,13 @@ fn look_in_block(
     words: &mut [u64],
     before: usize,
 ) -> Looked
-    requires { ⌜ (block + indexBlockSize ≤ used) × Indexed (now m) used (now index) × SlotsOf (now m) block (256 * k) × (k < mostBlocks) × (blockWords * k + blockWords ≤ length (now words)) × (before ≡ length (sel (liveIn (now m) w) (256 * k))) × Marked (now m) w (now words) (blockWords * k) ⌝ }
-    ensures { λ r. ⌜ (r .bad ≡ first (λ j. badSlot (endsMeet indexBlockSize (now (index .entry))) (now (m .entry)) used version (cellIn block slotSize j)) 256) × (r .bad ≡ 256 → (r .count ≡ length (sel (liveIn (now (m .entry)) w) (256 * k + 256))) × Marked (now (m .entry)) w (now (words .exit)) (blockWords * k + blockWords)) ⌝ }
+    requires { ⌜ (block + indexBlockSize ≤ used) × Indexed (now m) used (now index) × SlotsOf (now m) block (blockCells * k) × (k < mostBlocks)
+        × (blockWords * k + blockWords ≤ length (now words)) × (before ≡ length (sel (liveIn (now m) w) (blockCells * k)))
+        × Marked (now m) w (now words) (blockWords * k) ⌝ }
+    ensures { λ r. ⌜ (r .bad
+        ≡ first (λ j. badSlot (endsMeet indexBlockSize (now (index .entry))) (now (m .entry)) used version (cellIn block slotSize j)) blockCells)
+        × (r .bad ≡ blockCells → (r .count ≡ length (sel (liveIn (now (m .entry)) w) (blockCells * k + blockCells)))
+        × Marked (now (m .entry)) w (now (words .exit)) (blockWords * k + blockWords)) ⌝ }
 {
     let mut count = before;
     let mut q = 0usize;
@@ -123,7 +129,9 @@ pub fn look_in_slots(
     words: &mut [u64],
 ) -> Looked
     requires { ⌜ Open (now m) used n (now index) × (blockWords * n ≤ length (now words)) ⌝ }
-    ensures { λ r. ⌜ (r .bad ≡ 0 → (slotsJudged (now (m .entry)) used n ≡ Good) × (r .count ≡ length (found (now (m .entry)) n w)) × Marked (now (m .entry)) w (now (words .exit)) (blockWords * n)) × ((r .bad ≡ 0 → ⊥) → slotsJudged (now (m .entry)) used n ≡ Bad 7 (r .bad)) × (r .bad ≤ mapLimit) ⌝ }
+    ensures { λ r. ⌜ (r .bad ≡ 0 → (slotsJudged (now (m .entry)) used n ≡ Good) × (r .count ≡ length (found (now (m .entry)) n w))
+        × Marked (now (m .entry)) w (now (words .exit)) (blockWords * n)) × ((r .bad ≡ 0 → ⊥) → slotsJudged (now (m .entry)) used n ≡ Bad 7 (r .bad))
+        × (r .bad ≤ mapLimit) ⌝ }
 {
     let version = u16_at(m, Header::VERSION);
     let mut at = u32_at(m, Header::INDEX) as usize;

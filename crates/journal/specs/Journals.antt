@@ -24,7 +24,7 @@ use lib.ListN.{length}
 use lib.Seq.{sets}
 use Rattle.numbers.specs.Below.{any, first}
 use Rattle.records.specs.declared.JournalRecord.{JournalRecord}
-use Rattle.records.specs.Sizes.{slotSize, mapLimit, journalRecordSize, journalLimit}
+use Rattle.records.specs.Sizes.{slotSize, mapLimit, journalRecordSize, journalLimit, blockCells}
 use Rattle.records.specs.Headers.{indexHead}
 use Rattle.slots.specs.Slots.{slotOf}
 use Rattle.records.specs.Journals.{recordOf, recordBytes, shapeGood, isUnused}
@@ -43,7 +43,7 @@ unfoldable pub inUse : List ℕ → ℕ
 inUse j = first (λ i. isUnused (recordIn j i)) (total j)
 
 unfoldable pub slotUsed : List ℕ → ℕ → ℕ → Bool
-slotUsed m n s = ltb s (256 * n) && not (eqb (slotOf m (slotAt m s) .len) 0)
+slotUsed m n s = ltb s (blockCells * n) && not (eqb (slotOf m (slotAt m s) .len) 0)
 
 unfoldable pub recordGood : List ℕ → List ℕ → ℕ → ℕ → Bool
 recordGood j m n i =
@@ -79,7 +79,7 @@ pub record Reach (m o : List ℕ) (n : ℕ) : Type 0 where
   pub known : n ≤ length o
   pub few : n ≤ mapLimit
   pub ordered : Ordered indexHead m n o
-  pub inside : (s : ℕ) → s < 256 * n → slotAt m s + slotSize ≤ length m
+  pub inside : (s : ℕ) → s < blockCells * n → slotAt m s + slotSize ≤ length m
 
 unfoldable pub recordsTo : List ℕ → ℕ → List JournalRecord
 recordsTo j zero = []

@@ -9,7 +9,7 @@ ghost use Prim.Native.Nat.{ℕ, _+_, _*_, _%_, _≤_, _<_};
 ghost use lib.Dec.{ltb};
 ghost use lib.ListN.{length};
 ghost use Rattle.numbers.specs.Below.{any};
-ghost use Rattle.records.specs.Sizes.{journalRecordSize, journalLimit};
+ghost use Rattle.records.specs.Sizes.{journalRecordSize, journalLimit, blockCells};
 ghost use Rattle.records.specs.Headers.{indexHead};
 ghost use Rattle.records.specs.Journals.{isUnused};
 ghost use Rattle.chain.specs.Cells.{Ordered};
@@ -41,8 +41,8 @@ fn record_in(j: &[u8], i: usize) -> JournalRecord
 
 // Where slot s stands, by the blocks in their order.
 pub fn place_of(order: &[u32], s: usize) -> usize
-    requires { ⌜ s < 256 * length (now order) ⌝ }
-    ensures { λ r. ⌜ ((m : List ℕ) (n : ℕ) → Ordered indexHead m n (now (order .entry)) → s < 256 * n → r ≡ slotAt m s) ⌝ }
+    requires { ⌜ s < blockCells * length (now order) ⌝ }
+    ensures { λ r. ⌜ ((m : List ℕ) (n : ℕ) → Ordered indexHead m n (now (order .entry)) → s < blockCells * n → r ≡ slotAt m s) ⌝ }
 {
     let b = IndexBlock::new(order[s / IndexBlock::SLOTS] as usize);
     b.slot(s % IndexBlock::SLOTS)
@@ -69,8 +69,8 @@ fn spread(number: u32, trees: usize) -> u64
     number as u64 * 2654435769 % 4294967296 * (trees as u64)
 }
 
-// The link that a number comes to: that of the record which has it, or one that leads to none. It goes down its tree from the root, at each record to the first or
-// the second link below by the next bit of its spread.
+// The link that a number comes to: that of the record which has it, or one that leads to none. It goes down its tree from the root, at each record to the
+// first or the second link below by the next bit of its spread.
 fn link_for(j: &[u8], links: &[u16], trees: usize, number: u32) -> usize
     requires { ⌜ (0 < trees) × (trees ≤ 65536) × ((i : ℕ) × Linked trees (now j) (now links) i) ⌝ }
     ensures { λ r. ⌜ Comes trees (now (j .entry)) (now (links .entry)) number r ⌝ }
@@ -89,8 +89,8 @@ fn link_for(j: &[u8], links: &[u16], trees: usize, number: u32) -> usize
     at
 }
 
-// The records in use, judged in one pass. They are put in trees, by their numbers: first among the links are the roots, then two for each record. A link is 0, or
-// counts records from 1. The links are lent, all 0.
+// The records in use, judged in one pass. They are put in trees, by their numbers: first among the links are the roots, then two for each record. A link is
+// 0, or counts records from 1. The links are lent, all 0.
 fn judge_records(
     j: &[u8],
     m: &[u8],
@@ -100,7 +100,8 @@ fn judge_records(
     links: &mut [u16],
     trees: usize,
 ) -> JudgedJournal
-    requires { ⌜ (length (now j) ≤ journalLimit) × Reach (now m) (now order) n × (0 < trees) × (trees ≤ 65536) × Empty (now links) × (trees + 2 * total (now j) ≤ length (now links)) ⌝ }
+    requires { ⌜ (length (now j) ≤ journalLimit) × Reach (now m) (now order) n × (0 < trees) × (trees ≤ 65536) × Empty (now links)
+        × (trees + 2 * total (now j) ≤ length (now links)) ⌝ }
     ensures { λ r. ⌜ r ≡ judged (now (j .entry)) (now (m .entry)) n e ⌝ }
 {
     let all = j.len() / JournalRecord::SIZE;

@@ -23,7 +23,7 @@ use Rattle.slots.specs.declared.State.{State}
 use Rattle.slots.specs.declared.State.the-variants.{Free, Erased, Live}
 use Rattle.slots.specs.declared.ObjectHeader.{ObjectHeader}
 use Rattle.records.specs.Sizes.{headerSize, mapLimit}
-use Rattle.slots.specs.Slots.{slotOf, stateOf, lenGood, pairsOf, bytesIn}
+use Rattle.slots.specs.Slots.{slotOf, stateOf, lenGood, pairsOf, bytesIn, lenAt}
 use Rattle.slots.specs.Objects.{objectOf, typeGood}
 use Rattle.records.specs.Symbols.{sizeGood}
 use Rattle.chain.specs.Chains.{inside}
@@ -59,7 +59,7 @@ unfoldable pub badSlot : (ℕ → ℕ → Bool) → List ℕ → ℕ → ℕ →
 badSlot touch m used v p = isLive (stateOf (slotOf m p)) && not (slotGood touch m used v (slotOf m p))
 
 abbrev pub noLen : List ℕ → ℕ → Bool
-noLen m p = eqb (u16At m (p + 20)) 0
+noLen m p = eqb (u16At m (p + lenAt)) 0
 
 unfoldable pub symbolGood : (ℕ → ℕ → Bool) → List ℕ → ℕ → ℕ → Bool
 symbolGood touch m used q =

@@ -41,7 +41,8 @@ pub fn part_good(used: usize, p: Part) -> bool
 
 // Whether an object's header fits its slot, whose object has so many bytes. The last test also settles that a Len in 6 and 7 is one of whole pairs.
 fn header_fits(h: ObjectHeader, t: Slot, bytes: usize) -> bool
-    ensures { λ r. ⌜ ((version : ℕ) → bytesInRange bytes ≡ true → bytes ≡ bytesIn version (t .len) → r ≡ (lenGood version (t .len) && headerFits h version t)) ⌝ }
+    ensures { λ r. ⌜ ((version : ℕ) → bytesInRange bytes ≡ true → bytes ≡ bytesIn version (t .len)
+        → r ≡ (lenGood version (t .len) && headerFits h version t)) ⌝ }
 {
     if h.sym != t.sym {
         return false;
@@ -91,7 +92,8 @@ pub fn slot_good(m: &[u8], used: usize, version: u16, index: &[u32], t: Slot) ->
 // Whether a slot that is not free is live and not good.
 pub fn bad_slot(m: &[u8], used: usize, version: u16, index: &[u32], t: Slot) -> bool
     requires { ⌜ Indexed (now m) used (now index) × (t .len ≡ 0 → ⊥) ⌝ }
-    ensures { λ r. ⌜ ((at : ℕ) → t ≡ slotOf (now (m .entry)) at → r ≡ badSlot (endsMeet indexBlockSize (now (index .entry))) (now (m .entry)) used version at) ⌝ }
+    ensures { λ r. ⌜ ((at : ℕ) → t ≡ slotOf (now (m .entry)) at
+        → r ≡ badSlot (endsMeet indexBlockSize (now (index .entry))) (now (m .entry)) used version at) ⌝ }
 {
     if t.sym == 0 {
         return false;

@@ -9,7 +9,7 @@ use mathlib.Core.Path.{_≡_}
 use mathlib.Core.List.{List}
 use lib.ListN.{length, getD}
 use Rattle.numbers.specs.Bytes.{u32At}
-use Rattle.records.specs.Sizes.{headerSize, mapLimit, indexBlockSize, slotSize, symbolBlockSize, entrySize}
+use Rattle.records.specs.Sizes.{headerSize, mapLimit, indexBlockSize, slotSize, symbolBlockSize, entrySize, blockCells}
 use Rattle.records.specs.Headers.{indexHead}
 use Rattle.slots.specs.Slots.{slotOf, stateOf}
 use Rattle.chain.specs.Chains.{Links}
@@ -25,8 +25,8 @@ pub record Footprint {m : List ℕ} {used n : ℕ} (h : Meets m used n) (m′ : 
   pub header : Agree m m′ 0 headerSize
   pub index : (k : ℕ) → k < length (h .blocks) → Agree m m′ (getD (h .blocks) k 0) indexBlockSize
   pub symbol : (k : ℕ) → k < length (h .symbols) → Agree m m′ (getD (h .symbols) k 0) symbolBlockSize
-  pub sizes : (e : ℕ) → e < 256 * length (h .symbols) → (u32At m (cellOf (h .symbols) entrySize e) ≡ 0 → ⊥) → Agree m m′ (u32At m (cellOf (h .symbols) entrySize e)) 2
-  pub objects : (s : ℕ) → s < 256 * length (h .blocks) → isLive (stateOf (slotOf m (cellOf (h .blocks) slotSize s))) ≡ true → Agree m m′ (slotOf m (cellOf (h .blocks) slotSize s) .position) 8
+  pub sizes : (e : ℕ) → e < blockCells * length (h .symbols) → (u32At m (cellOf (h .symbols) entrySize e) ≡ 0 → ⊥) → Agree m m′ (u32At m (cellOf (h .symbols) entrySize e)) 2
+  pub objects : (s : ℕ) → s < blockCells * length (h .blocks) → isLive (stateOf (slotOf m (cellOf (h .blocks) slotSize s))) ≡ true → Agree m m′ (slotOf m (cellOf (h .blocks) slotSize s) .position) 8
 
 abbrev pub DependsOnly : Type 0
 DependsOnly =

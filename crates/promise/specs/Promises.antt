@@ -13,7 +13,7 @@ use Rattle.windows.specs.declared.Window.{Window}
 use Rattle.records.specs.declared.JournalRecord.{JournalRecord}
 use Rattle.windows.specs.Windows.{windowGood, meetsWindow}
 use Rattle.slots.specs.Slots.{slotOf, slotBytes, bytesIn}
-use Rattle.records.specs.Sizes.{headerSize, indexBlockSize, slotSize, journalRecordSize}
+use Rattle.records.specs.Sizes.{headerSize, indexBlockSize, slotSize, journalRecordSize, blockCells}
 use Rattle.records.specs.Headers.{indexHead}
 use Rattle.chain.specs.Chains.{block}
 use Rattle.judge.specs.Rules.{slotAt}
@@ -86,7 +86,7 @@ objectPart m s = take (bytesIn (versionOf m) (slotIn m s .len)) (drop (slotIn m 
 
 abbrev pub ContentIsBytes : Type 0
 ContentIsBytes =
-    (st st′ : State) (s : ℕ) → Good st → Good st′ → s < 256 * blocksIn (st .map) (st .used) → s < 256 * blocksIn (st′ .map) (st′ .used)
+    (st st′ : State) (s : ℕ) → Good st → Good st′ → s < blockCells * blocksIn (st .map) (st .used) → s < blockCells * blocksIn (st′ .map) (st′ .used)
     → contentOf (st′ .map) s ≡ contentOf (st .map) s
     → (slotPart (st′ .map) s ≡ slotPart (st .map) s) × (objectPart (st′ .map) s ≡ objectPart (st .map) s)
 

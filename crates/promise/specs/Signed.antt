@@ -18,7 +18,7 @@ use lib.Signed.{leZ}
 use Rattle.numbers.specs.Bytes.{u16At, u32At}
 use Rattle.numbers.specs.Coordinates.{signed16, signed32}
 use Rattle.records.specs.declared.Part.{Part}
-use Rattle.records.specs.Sizes.{headerSize, mapLimit, slotSize, entrySize}
+use Rattle.records.specs.Sizes.{headerSize, mapLimit, slotSize, entrySize, blockCells}
 use Rattle.records.specs.Headers.{partOf, setupAt, infoAt, indexHead, symbolHead}
 use Rattle.slots.specs.Slots.{slotOf, stateOf}
 use Rattle.chain.specs.Chains as chains
@@ -54,10 +54,10 @@ pub record AcceptedEitherWay {m : List ℕ} {used n : ℕ} (h : Meets m used n) 
   pub index : ChainEitherWay m indexHead (h .blocks)
   pub symbol : ChainEitherWay m symbolHead (h .symbols)
   -- every entry, used or not; and the Size of the record of one that is used
-  pub entries : (e : ℕ) → e < 256 * length (h .symbols) → EitherWay (u32At m (cellOf (h .symbols) entrySize e))
-  pub sizes : (e : ℕ) → e < 256 * length (h .symbols) → (u32At m (cellOf (h .symbols) entrySize e) ≡ 0 → ⊥)
+  pub entries : (e : ℕ) → e < blockCells * length (h .symbols) → EitherWay (u32At m (cellOf (h .symbols) entrySize e))
+  pub sizes : (e : ℕ) → e < blockCells * length (h .symbols) → (u32At m (cellOf (h .symbols) entrySize e) ≡ 0 → ⊥)
       → signed16 (u16At m (u32At m (cellOf (h .symbols) entrySize e))) ≡ pos (u16At m (u32At m (cellOf (h .symbols) entrySize e)))
-  pub slots : (s : ℕ) → s < 256 * length (h .blocks) → isLive (stateOf (slotOf m (cellOf (h .blocks) slotSize s))) ≡ true
+  pub slots : (s : ℕ) → s < blockCells * length (h .blocks) → isLive (stateOf (slotOf m (cellOf (h .blocks) slotSize s))) ≡ true
       → EitherWay (slotOf m (cellOf (h .blocks) slotSize s) .position)
 
 pub record SignedAsWritten : Type 0 where

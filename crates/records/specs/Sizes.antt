@@ -5,7 +5,14 @@ use Prim.Native.Nat.{ℕ}
 abbrev pub headerSize : ℕ
 headerSize = 48
 
--- an index block: a link of 4 bytes, then 256 slots
+-- a block of a chain begins with its link, and then has so many cells: slots in an index block, entries in a symbol block
+abbrev pub linkSize : ℕ
+linkSize = 4
+
+abbrev pub blockCells : ℕ
+blockCells = 256
+
+-- an index block: a link, then slots
 abbrev pub indexBlockSize : ℕ
 indexBlockSize = 6148
 
@@ -20,7 +27,7 @@ mostBlocks = 2728
 abbrev pub indexPage : ℕ
 indexPage = 4096
 
--- a symbol block: a link of 4 bytes, then 256 entries
+-- a symbol block: a link, then entries
 abbrev pub symbolBlockSize : ℕ
 symbolBlockSize = 1028
 
@@ -41,7 +48,13 @@ objectHeaderSize = 32
 abbrev pub pairSize : ℕ
 pairSize = 8
 
--- an object has at most so many bytes: those of 32,768 pairs
+-- an object has at most so many pairs, in 8 and in 6 and 7; and so many bytes
+abbrev pub mostPairs8 : ℕ
+mostPairs8 = 32768
+
+abbrev pub mostPairs7 : ℕ
+mostPairs7 = 8187
+
 abbrev pub objectMost : ℕ
 objectMost = 262176
 

@@ -1,5 +1,6 @@
-// A type for each kind of record of a map and of a journal but for slots and objects: header, symbol blocks and records, journal records, with its size and small
-// constructors: a block is made from where it starts, a symbol record has its size alone, the others are read from bytes. A journal record also has a writer.
+// A type for each kind of record of a map and of a journal but for slots and objects: header, symbol blocks and records, journal records, with its size and
+// small constructors: a block is made from where it starts, a symbol record has its size alone, the others are read from bytes. A journal record also has a
+// writer.
 use numbers::put_u32_at;
 use numbers::u16_at;
 use numbers::u32_at;

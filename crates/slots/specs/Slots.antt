@@ -18,7 +18,13 @@ use Rattle.slots.specs.declared.Slot.{Slot}
 use Rattle.slots.specs.declared.State.{State}
 use Rattle.slots.specs.declared.State.the-variants.{Free, Erased, Live}
 use Rattle.slots.specs.declared.Found.{Found}
-use Rattle.records.specs.Sizes.{objectHeaderSize, pairSize, objectMost}
+use Rattle.records.specs.Sizes.{objectHeaderSize, pairSize, objectMost, mostPairs8}
+
+abbrev pub lenAt : ℕ
+lenAt = 20
+
+abbrev pub symAt : ℕ
+symAt = 22
 
 unfoldable pub slotOf : List ℕ → ℕ → Slot
 slotOf m p =
@@ -28,8 +34,8 @@ slotOf m p =
       right = u32At m (p + 8);
       top = u32At m (p + 12);
       position = u32At m (p + 16);
-      len = u16At m (p + 20);
-      sym = u16At m (p + 22);
+      len = u16At m (p + lenAt);
+      sym = u16At m (p + symAt);
     }
 
 unfoldable pub slotBytes : Slot → List ℕ
@@ -54,7 +60,7 @@ foundAt m p = record { slot = slotOf m p; state = stateOf (slotOf m p); place = 
 -- version 8 counts pairs, 6 and 7 bytes
 unfoldable pub lenGood : ℕ → ℕ → Bool
 lenGood v len =
-    cond (eqb v 8) (leb len 32768) (leb (objectHeaderSize + pairSize) len && eqb ((len - objectHeaderSize) % pairSize) 0)
+    cond (eqb v 8) (leb len mostPairs8) (leb (objectHeaderSize + pairSize) len && eqb ((len - objectHeaderSize) % pairSize) 0)
 
 unfoldable pub pairsOf : ℕ → ℕ → ℕ
 pairsOf v len = cond (eqb v 8) len ((len - objectHeaderSize) / pairSize)

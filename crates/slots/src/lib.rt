@@ -9,7 +9,7 @@ ghost use mathlib.Core.Bool.{cond};
 ghost use Prim.Native.Nat.{_+_, _-_, _*_, _≤_, _<_};
 ghost use lib.ListN.{length};
 ghost use lib.Seq.{sets};
-ghost use Rattle.records.specs.Sizes.{slotSize, objectHeaderSize};
+ghost use Rattle.records.specs.Sizes.{slotSize, objectHeaderSize, blockCells, linkSize};
 ghost use Rattle.slots.specs.Slots.{slotOf, slotBytes, stateOf, foundAt, bytesIn, bytesInRange, lenOf};
 ghost use Rattle.slots.specs.Objects.{objectOf, typeGood};
 
@@ -41,8 +41,8 @@ impl IndexBlock {
 
     // Where slot j of the block stands.
     pub fn slot(self, j: usize) -> usize
-        requires { ⌜ (self .at ≤ 4294967296) × (j < 256) ⌝ }
-        ensures { λ r. ⌜ r ≡ self .at + 4 + slotSize * j ⌝ }
+        requires { ⌜ (self .at ≤ 4294967296) × (j < blockCells) ⌝ }
+        ensures { λ r. ⌜ r ≡ self .at + linkSize + slotSize * j ⌝ }
     {
         self.at + LINK + Slot::SIZE * j
     }

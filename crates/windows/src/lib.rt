@@ -137,9 +137,9 @@ pub fn window_good(w: Window) -> bool
     if left <= right { bottom <= top } else { false }
 }
 
-// Whether a slot's rectangle meets a window: by value, and touching counts. A raw number's value is at most z just when the number is at most 256 z + 255, and at
-// least z just when it is at least 256 z: so no coordinate is divided, and what is done to the window's sides is the same for every slot. All four tests are made,
-// since no branch on a coordinate can be foreseen.
+// Whether a slot's rectangle meets a window: by value, and touching counts. A raw number's value is at most z just when the number is at most 256 z + 255,
+// and at least z just when it is at least 256 z: so no coordinate is divided, and what is done to the window's sides is the same for every slot. All four
+// tests are made, since no branch on a coordinate can be foreseen.
 pub fn meets_window(t: Slot, w: Window) -> bool
     ensures { λ r. ⌜ r ≡ meetsWindow t w ⌝ }
 {
