@@ -13,7 +13,7 @@ use lib.Dec.{ltb}
 use Rattle.numbers.specs.Below.{first}
 use Rattle.numbers.proofs.Below.{First, first-is, first-law}
 use Rattle.numbers.proofs.Coordinates.{lt-or-ge}
-use Rattle.accept.specs.Slots.{firstFree}
+use Rattle.accept.specs.Opens.{firstFree}
 
 pub first-same : {p q : ℕ → Bool} {n f : ℕ} → ((i : ℕ) → i < n → q i ≡ p i) → First p n f → First q n f
 first-same {f} e h =

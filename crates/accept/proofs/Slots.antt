@@ -15,7 +15,8 @@ use Rattle.accept.specs.declared.ExaminedMap.{ExaminedMap}
 use Rattle.accept.specs.declared.ExaminedMap.the-variants as examined
 use Rattle.judge.specs.Rules.{slotAt}
 use Rattle.judge.specs.Judging.{noLen}
-use Rattle.accept.specs.Slots.{slotIn, freeSlot, withFree}
+use Rattle.accept.specs.Slots.{slotIn, freeSlot}
+use Rattle.accept.specs.Opens.{withFree}
 
 -- ---- a slot is free exactly where its Len is 0
 

@@ -1,5 +1,5 @@
--- Document 01's conditions for a map, sentence by sentence, each chain as the list of its blocks. The check answers accepted exactly when they hold: proved in
--- proofs/Meets.antt.
+-- For the reader, to be held against document 01: its conditions for a map, sentence by sentence, each chain as the list of its blocks. What is quoted are its
+-- words. The check answers accepted exactly when they hold: proved in proofs/Meets.antt.
 --     Inside used p n         the n bytes from p start behind the header and end inside the map
 --     Apart p n q k           the n bytes from p and the k bytes from q have no byte in common
 --     Off bs n p k            the k bytes from p have no byte in common with a block of bs, of n bytes each
@@ -52,45 +52,60 @@ abbrev pub cellOf : List ℕ → ℕ → ℕ → ℕ
 cellOf bs w c = cellIn (getD bs (c / blockCells) 0) w (c % blockCells)
 
 pub record GoodRecord (m : List ℕ) (used : ℕ) (index : List ℕ) (q : ℕ) : Type 0 where
+  -- "at least 48 and points to a record inside the map"
   pub start : Inside used q 2
+  -- "whose signed 16-bit Size is 348 or more"
   pub size : sizeGood (u16At m q) ≡ true
   pub lies : Inside used q (u16At m q)
+  -- "sharing no byte with an index block"
   pub off : Off index indexBlockSize q (u16At m q)
 
 pub record GoodLive (m : List ℕ) (used : ℕ) (index : List ℕ) (t : Slot) : Type 0 where
+  -- "left <= right and bottom <= top by value"
   pub wide : leZ (valueOf (t .left)) (valueOf (t .right)) ≡ true
   pub tall : leZ (valueOf (t .bottom)) (valueOf (t .top)) ≡ true
+  -- "in 6 and 7, Len is the object's bytes, at least 40, and Len - 32 is a multiple of 8; in 8, Len itself counts pairs, at most 32,768"
   pub len : lenGood (versionOf m) (t .len) ≡ true
+  -- "its position is at least 48, its object lies inside"
   pub lies : Inside used (t .position) (bytesIn (versionOf m) (t .len))
+  -- "and shares no byte with an index block"
   pub off : Off index indexBlockSize (t .position) (bytesIn (versionOf m) (t .len))
+  -- "the object's Sym equals the slot's"
   pub sym : objectOf (drop (t .position) m) .sym ≡ t .sym
+  -- "the type is 1 to 5"
   pub kind : typeGood (objectOf (drop (t .position) m) .kind) ≡ true
+  -- "and nItem + nText is the pair count"
   pub pairs : objectOf (drop (t .position) m) .items + objectOf (drop (t .position) m) .texts ≡ pairsOf (versionOf m) (t .len)
 
 pub record Meets (m : List ℕ) (used n : ℕ) : Type 0 where
-  -- 1: the length
+  -- "A map is the first `used` bytes of a lent buffer. Its length is 48 to 16,777,216"
   pub least : headerSize ≤ used
   pub most : used ≤ mapLimit
   pub room : used ≤ length m
-  -- 2 and 3: the mark, and the pair of version and section mark
+  -- "mark at 0 (3245)"
   pub mark : u16At m 0 ≡ 3245
+  -- "Accepted pairs of version and section mark: 6 with 0; 7 with 7; 8 with 2 or 3. Nothing else."
   pub pair : pairGood (versionOf m) (u16At m 2) ≡ true
-  -- 4: setup and info
+  -- "size 0 means absent, whatever the position. Otherwise size is positive, position is at least 48, and position plus size is at most the length"
   pub setup : Present used (partOf m setupAt)
   pub info : Present used (partOf m infoAt)
-  -- 5: the index blocks
+  -- "Link 0 ends a chain; a first link of 0 is an empty chain and is good. [..] Each index block starts at 48 or later, lies inside the map, and shares no byte
+  -- with setup, info or an earlier index block."
   pub blocks : List ℕ
   pub count : length blocks ≡ n
   pub index : Chain m used indexHead indexBlockSize blocks
   pub off-setup : Off blocks indexBlockSize (partOf m setupAt .at) (partOf m setupAt .size)
   pub off-info : Off blocks indexBlockSize (partOf m infoAt .at) (partOf m infoAt .size)
-  -- 6: the symbol blocks, and each entry that is used
+  -- "Each symbol block starts at 48 or later, lies inside, and shares no byte with an index block or earlier symbol block."
   pub symbols : List ℕ
   pub symbol : Chain m used symbolHead symbolBlockSize symbols
   pub off-index : (k : ℕ) → k < length symbols → Off blocks indexBlockSize (getD symbols k 0) symbolBlockSize
-  pub entries : (e : ℕ) → e < blockCells * length symbols → (u32At m (cellOf symbols entrySize e) ≡ 0 → ⊥) → GoodRecord m used blocks (u32At m (cellOf symbols entrySize e))
-  -- 7: each live slot
-  pub slots : (s : ℕ) → s < blockCells * length blocks → isLive (stateOf (slotOf m (cellOf blocks slotSize s))) ≡ true → GoodLive m used blocks (slotOf m (cellOf blocks slotSize s))
+  -- "A symbol position of 0 is an unused entry; any other is" good
+  pub entries : (e : ℕ) → e < blockCells * length symbols → (u32At m (cellOf symbols entrySize e) ≡ 0 → ⊥)
+      → GoodRecord m used blocks (u32At m (cellOf symbols entrySize e))
+  -- "A live slot is good [..] Erased and free slots aren't judged."
+  pub slots : (s : ℕ) → s < blockCells * length blocks → isLive (stateOf (slotOf m (cellOf blocks slotSize s))) ≡ true
+      → GoodLive m used blocks (slotOf m (cellOf blocks slotSize s))
 
 abbrev pub AcceptedExactly : Type 0
 AcceptedExactly = (m : List ℕ) (used n : ℕ) → (Meets m used n → verdict m used ≡ Accepted n) × (verdict m used ≡ Accepted n → Meets m used n)

@@ -1,14 +1,20 @@
--- A map is opened: what 1 to 6 of the check answer for the first `used` bytes of a buffer m, and the table t of the index blocks that is left. For the
--- contracts between the floors; the check's own answer is in Verdicts.
+-- For inner contracts: a reader of the promises may skip this file. What 1 to 6 of the check answer for the first `used`
+-- bytes of a buffer m, and the table t of the index blocks that is left; and what the look at the slots finds beside the verdict.
 --     orOpened j o            the refusal of the fault that j has, or else o
 --     openedAfter, openedOf   5, then 6, by the walk of the index blocks; and 1 to 4 before them: a refusal, or the number of index blocks
 --     afterOpened m used o    the check's answer for a map that was opened: the refusal, or 7, or accepted
 --     Open m used n t         1 to 5 hold, with n index blocks, which are in the table, filled
 --     Opens m used t o        the map is open where o is no refusal
+--     firstFree b f s         the first free slot by the one found before s, f, and whether s is free
+--     freeIn m b j            whether slot j of the block at b is free
+--     withFree m v            a verdict, with the first free slot where it is accepted
 use Prim.Native.Nat.{ℕ, _≤_}
+use mathlib.Core.Bool.{Bool, true, false, cond}
 use mathlib.Core.Path.{_≡_}
 use mathlib.Core.List.{List}
-use Rattle.records.specs.Sizes.{headerSize, indexBlockSize, indexPage}
+use lib.Dec.{ltb}
+use Rattle.chain.specs.Cells.{cellIn}
+use Rattle.records.specs.Sizes.{headerSize, indexBlockSize, slotSize, indexPage}
 use Rattle.records.specs.Headers.{indexHead}
 use Rattle.chain.specs.declared.Walk.{Walk}
 use Rattle.chain.specs.declared.Walk.the-variants.{Blocks, Fault}
@@ -23,6 +29,10 @@ use Rattle.accept.specs.declared.OpenedMap.the-variants as opened
 use Rattle.judge.specs.Rules.{indexRule}
 use Rattle.judge.specs.Indexed.{Indexed}
 use Rattle.accept.specs.Verdicts.{unless, headerJudged, symbolsJudged, slotsJudged}
+use Rattle.accept.specs.declared.ExaminedMap.{ExaminedMap}
+use Rattle.accept.specs.declared.ExaminedMap.the-variants as examined
+use Rattle.judge.specs.Judging.{noLen}
+use Rattle.accept.specs.Slots.{freeSlot}
 
 abbrev pub orOpened : JudgedMap → OpenedMap → OpenedMap
 orOpened Good o = o
@@ -48,3 +58,14 @@ pub record Open (m : List ℕ) (used n : ℕ) (t : List ℕ) : Type 0 where
 abbrev pub Opens : List ℕ → ℕ → List ℕ → OpenedMap → Type 0
 Opens m used t (opened.Blocks n) = Open m used n t
 Opens m used t (opened.Refused k p) = Unit {0}
+
+abbrev pub firstFree : Bool → ℕ → ℕ → ℕ
+firstFree true free s = cond (ltb s free) s free
+firstFree false free s = free
+
+abbrev pub freeIn : List ℕ → ℕ → ℕ → Bool
+freeIn m b j = noLen m (cellIn b slotSize j)
+
+abbrev pub withFree : List ℕ → Verdict → ExaminedMap
+withFree m (Accepted n) = examined.Accepted n (freeSlot m n)
+withFree m (Refused k p) = examined.Refused k p

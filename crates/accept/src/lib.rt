@@ -23,9 +23,8 @@ ghost use Rattle.chain.specs.Tables.{Empty, Placed, Filled, Table, EndsTable};
 ghost use Rattle.chain.specs.declared.Walk.the-variants.{Blocks};
 ghost use Rattle.accept.specs.declared.Verdict.the-variants.{Accepted};
 ghost use Rattle.accept.specs.declared.ExaminedMap.the-variants as examined;
-ghost use Rattle.accept.specs.Slots.{withFree};
 ghost use Rattle.judge.specs.Rules.{indexRule};
-ghost use Rattle.accept.specs.Opens.{openedAfter, openedOf, afterOpened, Opens};
+ghost use Rattle.accept.specs.Opens.{openedAfter, openedOf, afterOpened, Opens, withFree};
 ghost use Rattle.accept.specs.Verdicts.{numberOf, placeOf, afterIndex, verdict, Checked};
 
 // What the check answers. Refusals carry document 01's number and place.

@@ -15,10 +15,9 @@ ghost use Rattle.records.specs.Sizes.{indexBlockSize, slotSize, blockCells};
 ghost use Rattle.chain.specs.Cells.{cellIn};
 ghost use Rattle.chain.specs.Tables.{endsMeet};
 ghost use Rattle.accept.specs.declared.Verdict.the-variants.{Accepted};
-ghost use Rattle.accept.specs.Slots.{firstFree, freeIn, withFree};
 ghost use Rattle.judge.specs.Indexed.{Indexed};
 ghost use Rattle.judge.specs.Judging.{badSlot};
-ghost use Rattle.accept.specs.Opens.{Open};
+ghost use Rattle.accept.specs.Opens.{Open, firstFree, freeIn, withFree};
 ghost use Rattle.accept.specs.Verdicts.{unless, slotsJudged};
 
 // What the slots of a block are judged to be: the first at fault, and the first free, 256 where there is none.

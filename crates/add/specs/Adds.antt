@@ -37,30 +37,42 @@ abbrev pub slotAdded : List ℕ → ℕ → List ℕ → Slot
 slotAdded m used o = slotFor (versionOf m) o used
 
 unfoldable pub inFree : List ℕ → ℕ → ℕ → List ℕ → List ℕ
-inFree m used n o = sets (sets m used o) (slotAt m (freeSlot m n)) (slotBytes (slotAdded m used o))
+inFree m used n o =
+    -- the object "is stored at the old end", and "all 24 bytes" of the slot "are written"
+    sets (sets m used o) (slotAt m (freeSlot m n)) (slotBytes (slotAdded m used o))
 
 unfoldable pub inBlock : List ℕ → ℕ → ℕ → List ℕ → List ℕ
 inBlock m used n o =
+    -- "If none is free, a new zeroed index block follows the object, the chain's last link (or the header's) points to it, and its slot 0 is used."
     sets (sets (sets m used o) (used + length o) (blockFor (slotAdded m used o))) (place indexHead m n) (bytesOf 4 (used + length o))
 
 unfoldable pub addedMap : List ℕ → ℕ → ℕ → List ℕ → List ℕ
 addedMap m used n o = cond (isFree m n) (inFree m used n o) (inBlock m used n o)
 
 unfoldable pub repeatAdd : List ℕ → ℕ → List ℕ → List ℕ → ℕ → ℕ → Outcome
-repeatAdd m used j o k t = cond (eqb k 1 && isObject m used (slotIn m t) o) (saying m j (Before t used)) (saying m j (Refused 14 0))
+repeatAdd m used j o k t =
+    -- "for an add: the slot's object [..] equals the offered bytes": "done before" with the slot and the length as it is
+    cond (eqb k 1 && isObject m used (slotIn m t) o)
+    (saying m j (Before t used))
+    -- 14: held under another kind, or the object differs
+    (saying m j (Refused 14 0))
 
 unfoldable pub freshAdd : List ℕ → ℕ → List ℕ → ℕ → List ℕ → ℕ → Outcome
 freshAdd m used j e o n =
     cond (offeredGood (versionOf m) o)
     (cond (leb (newLength m used n o) mapLimit && leb (newLength m used n o) (length m))
     (cond (isFull j)
+    -- 15: no record is unused
     (saying m j (Refused 15 0))
+    -- done: "It takes the first free slot in slot order." "A done edit returns its slot and the new length."
     (record {
       answer = Done (freeSlot m n) (newLength m used n o);
       map = addedMap m used n o;
       journal = appended j (recordFor e 1 (freeSlot m n));
     }))
+    -- 11: "new length over the buffer or 16,777,216"
     (saying m j (Refused 11 0)))
+    -- 10: "offered object malformed"
     (saying m j (Refused 10 0))
 
 unfoldable pub added : List ℕ → ℕ → List ℕ → ℕ → List ℕ → Outcome

@@ -42,7 +42,8 @@ ghost use Rattle.journal.specs.Journals.{inUse};
 ghost use Rattle.edit.specs.declared.EditAnswer.the-variants.{Refused};
 ghost use Rattle.accept.specs.Slots.{freeSlot};
 ghost use Rattle.add.specs.Objects.{pairLimit, offeredGood, slotFor, blockFor, isObject};
-ghost use Rattle.edit.specs.Edits.{Edited, Roomy};
+ghost use Rattle.edit.specs.Edits.{Edited};
+ghost use Rattle.edit.specs.Lent.{Roomy};
 ghost use Rattle.add.specs.Adds.{newLength, addedMap, repeatAdd, freshAdd, added, Added};
 
 // Whether an offered object is well formed for a version.

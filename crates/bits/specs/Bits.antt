@@ -1,4 +1,4 @@
--- A number as bits, the lowest first; and the numbers that pass a test, from one on.
+-- For inner contracts: a reader of the promises may skip this file. A number as bits, the lowest first; and the numbers that pass a test, from one on.
 --     bit b             1 or 0
 --     double k x        x, doubled k times
 --     from p s n        of the n numbers from s on those that pass the test p, ascending

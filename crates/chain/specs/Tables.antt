@@ -1,3 +1,4 @@
+-- For inner contracts: a reader of the promises may skip this file.
 -- The table of the blocks of a chain, by which a range is tested against all of them. The map is cut into pages of w bytes, w at most the bytes of a block.
 -- Blocks that share no byte start at least a block apart, so in a page at most one starts. Entry b + 1 has the block that starts in page b, or 0; entry 0 is 0.
 -- After the walk the table is filled, with ends in the place of starts: entry b is then the end of the last block that starts before page b, and a range of any

@@ -15,14 +15,22 @@ use Rattle.change.specs.Slots.{withSym, allowedFor, symFor}
 use Rattle.edit.specs.Edits.{Outcome, Edited, saying, begun}
 
 unfoldable pub repeatChange : List ℕ → ℕ → List ℕ → ℕ → ℕ → ℕ → ℕ → Outcome
-repeatChange m used j kind s k t = cond (eqb k kind && eqb t s) (saying m j (Before s used)) (saying m j (Refused 14 0))
+repeatChange m used j kind s k t =
+    -- "A number already held: same kind and slot [..] answers "done before" with the slot and the length as it is, and nothing changes"
+    cond (eqb k kind && eqb t s)
+    (saying m j (Before s used))
+    -- 14: held under another kind or slot
+    (saying m j (Refused 14 0))
 
 unfoldable pub freshChange : List ℕ → ℕ → List ℕ → ℕ → ℕ → ℕ → Bool → ℕ → Outcome
 freshChange m used j e kind s allowed y =
     cond allowed
     (cond (isFull j)
+    -- 15: no record is unused
     (saying m j (Refused 15 0))
+    -- done: one Sym is written, and the record, "at the first unused record". "Beside these writes no byte of the buffer changes."
     (record { answer = Done s used; map = withSym m s y; journal = appended j (recordFor e kind s) }))
+    -- 12: "slot missing or not in the state wanted, or reinstating refused"
     (saying m j (Refused 12 0))
 
 unfoldable pub changed : List ℕ → ℕ → List ℕ → ℕ → ℕ → ℕ → Outcome

@@ -1,4 +1,4 @@
--- The Sym that a removal or a reinstatement writes, as the code answers it.
+-- For inner contracts: a reader of the promises may skip this file. The Sym that a removal or a reinstatement writes, as the code answers it.
 --     symToReinstate touch m used t    of an erased slot t: its object's Sym, where that is inside the map and not 0 and the slot would be good with it
 --     newSymFor kind m used n s        of an edit of kind 2 or 3 on slot s: what `symFor` says where `allowedFor` allows it
 use Prim.Native.Nat.{ℕ, _+_}

@@ -24,8 +24,10 @@ use Rattle.edit.specs.declared.EditAnswer.the-variants.{Refused}
 use Rattle.edit.specs.declared.EditStart.the-variants as starts
 use Rattle.accept.specs.declared.ExaminedMap.{ExaminedMap}
 use Rattle.accept.specs.declared.ExaminedMap.the-variants as examined
-use Rattle.accept.specs.Slots.{freeSlot, withFree}
-use Rattle.edit.specs.Edits.{Outcome, saying, afterLook, afterCheck, startOf, Known}
+use Rattle.accept.specs.Slots.{freeSlot}
+use Rattle.accept.specs.Opens.{withFree}
+use Rattle.edit.specs.Edits.{Outcome, saying, afterLook, afterCheck, startOf}
+use Rattle.edit.specs.Lent.{Known}
 use Prim.Native.Nat.{ℕ, _+_, _*_, _≤_, _<_}
 use mathlib.Core.List.{List}
 use lib.ListN.{length}

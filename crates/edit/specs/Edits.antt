@@ -4,15 +4,9 @@
 --     Outcome                the answer, and every byte of the map's buffer and of the journal afterwards
 --     Edited o a m j         the result of an edit whose outcome is o: its answer a, and the map m and the journal j afterwards
 --     startOf, begun         1 to 7; then 13; then a number that is held (`repeat`, with the record's kind and slot) or a new one (`fresh`)
---     Roomy, Known           for the contracts within the edits: what the lent tables have room for, and what they tell of a map
-use Prim.Native.Nat.{ℕ, _+_, _*_, _≤_, _<_}
+use Prim.Native.Nat.{ℕ}
 use mathlib.Core.Path.{_≡_}
 use mathlib.Core.List.{List}
-use lib.ListN.{length}
-use Rattle.records.specs.Sizes.{headerSize, indexBlockSize, indexPage}
-use Rattle.records.specs.Headers.{indexHead}
-use Rattle.chain.specs.Tables.{Filled, EndsTable}
-use Rattle.chain.specs.Cells.{Ordered}
 use Rattle.accept.specs.declared.Verdict.{Verdict}
 use Rattle.accept.specs.declared.Verdict.the-variants as verdicts
 use Rattle.accept.specs.Verdicts.{verdict}
@@ -63,11 +57,13 @@ abbrev pub saying : List ℕ → List ℕ → EditAnswer → Outcome
 saying m j a = record { answer = a; map = m; journal = j }
 
 abbrev pub afterLook : List ℕ → ℕ → JournalLook → EditStart
+-- 13: "journal malformed, or edit number 0"
 afterLook m n Malformed = starts.Refused 13 0
 afterLook m n (Held kind slot) = starts.Held n kind slot
 afterLook m n (New k) = starts.New n k (freeSlot m n)
 
 abbrev pub afterCheck : List ℕ → List ℕ → ℕ → Verdict → EditStart
+-- 1 to 7: the check's
 afterCheck m j e (verdicts.Refused k p) = starts.Refused k p
 afterCheck m j e (verdicts.Accepted n) = afterLook m n (looked j m n e)
 
@@ -81,14 +77,3 @@ after m j repeat fresh (starts.New n k f) = fresh n
 
 abbrev pub begun : List ℕ → ℕ → List ℕ → ℕ → (ℕ → ℕ → ℕ → Outcome) → (ℕ → Outcome) → Outcome
 begun m used j e repeat fresh = after m j repeat fresh (startOf m used j e)
-
--- the tables that an edit is lent have room for a map of so many bytes
-pub record Roomy (used : ℕ) (index order : List ℕ) : Type 0 where
-  pub pages : used + indexPage ≤ length index * indexPage
-  pub blocks : used < headerSize + indexBlockSize * (length order + 1)
-
--- what the tables that an edit fills tell of a map with n index blocks
-pub record Known (m : List ℕ) (used n : ℕ) (index order : List ℕ) : Type 0 where
-  pub filled : Filled indexBlockSize indexPage used index
-  pub table : EndsTable indexBlockSize indexHead indexPage m n index
-  pub ordered : Ordered indexHead m n order

@@ -12,7 +12,7 @@ ghost use Rattle.records.specs.Sizes.{headerSize, indexBlockSize, mapLimit};
 ghost use Rattle.records.specs.Headers.{indexHead};
 ghost use Rattle.chain.specs.Chains.{place};
 ghost use Rattle.chain.specs.Cells.{Ordered};
-ghost use Rattle.accept.specs.Slots.{withFree};
+ghost use Rattle.accept.specs.Opens.{withFree};
 ghost use Rattle.accept.specs.Verdicts.{verdict};
 ghost use Rattle.accept.specs.declared.Verdict.the-variants.{Accepted};
 ghost use Rattle.edit.specs.declared.EditAnswer.the-variants.{Refused};

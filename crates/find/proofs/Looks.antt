@@ -45,8 +45,8 @@ use Rattle.judge.proofs.Rules.{most-blocks}
 use Rattle.accept.proofs.Opens.{verdict-opened}
 use Rattle.accept.proofs.Firsts.{first-same, first-after}
 use Rattle.judge.proofs.States.{no-len, has-len}
-use Rattle.find.specs.Searches.{wantedAt, SlotsOf, liveIn, slotsFor, found}
-use Rattle.find.specs.Looks.{blockWords, slotFrom, liveFrom, Marked}
+use Rattle.find.specs.Searches.{wantedAt, liveIn, slotsFor, found}
+use Rattle.find.specs.Looks.{blockWords, slotFrom, liveFrom, Marked, SlotsOf}
 
 -- a test as a number, as the code has it
 pub one-at-most : (hit : Bool) → boolByte hit ≤ 1

@@ -1,8 +1,9 @@
--- The look at the slots in one pass, a word's bits at a time: each slot is judged, and has a bit that says whether the search lists it. For the contracts
--- within the search.
+-- For inner contracts: a reader of the promises may skip this file. The look at the slots in one pass, a word's
+-- bits at a time: each slot is judged, and has a bit that says whether the search lists it.
 --     blockWords          the bits of an index block's 256 slots are so many words
 --     slotFrom p j        where slot j of a run of slots stands that starts at place p
 --     liveFrom m w p j    whether that slot is live and its rectangle meets the window
+--     SlotsOf m b first   the 256 slots from number `first` on are those of the block at b
 --     Marked m w ws n     each of the first n words has the bits of its slots, in slot order
 use Prim.Native.Nat.{ℕ, _+_, _*_, _<_}
 use mathlib.Core.Bool.{Bool}
@@ -10,9 +11,11 @@ use mathlib.Core.Path.{_≡_}
 use mathlib.Core.List.{List}
 use lib.ListN.{getD}
 use Rattle.bits.specs.Bits.{bitsFrom, wordBits}
-use Rattle.records.specs.Sizes.{slotSize}
+use Rattle.records.specs.Sizes.{slotSize, blockCells}
 use Rattle.windows.specs.declared.Window.{Window}
 use Rattle.slots.specs.declared.State.the-variants.{Live}
+use Rattle.chain.specs.Cells.{cellIn}
+use Rattle.judge.specs.Rules.{slotAt}
 use Rattle.find.specs.Searches.{wantedAt, liveIn}
 
 abbrev pub blockWords : ℕ
@@ -26,3 +29,6 @@ liveFrom m w p j = wantedAt m Live w (slotFrom p j)
 
 abbrev pub Marked : List ℕ → Window → List ℕ → ℕ → Type 0
 Marked m w ws n = (i : ℕ) → i < n → getD ws i 0 ≡ bitsFrom (liveIn m w) (wordBits * i) wordBits
+
+abbrev pub SlotsOf : List ℕ → ℕ → ℕ → Type 0
+SlotsOf m b first = (j : ℕ) → j < blockCells → slotAt m (first + j) ≡ cellIn b slotSize j

@@ -3,7 +3,6 @@
 --                                             needed, every count in a refusal is 0
 --     checkedLength m used       a length that is checked against the limits and the buffer; else 0, which no map has
 --     wantedAt m k w p           whether the slot at place p is in state k and its rectangle meets the window; wantedIn m k w s: slot s
---     SlotsOf m b first          the 256 slots from number `first` on are those of the block at b
 --     liveIn m w s               whether slot s is live and its rectangle meets the window
 --     slotsFor test n            the slots of n index blocks that pass a test, ascending, each once
 --     selected m n k w           those that are in state k and meet the window
@@ -12,7 +11,7 @@
 --     In x l                     x stands in the list l
 --     listAfter m used w l       what the lent list holds afterwards: the slots found in its first entries and the rest as it was; after a refusal all as it was
 --     Searched m used w l a after     the search's result: its answer a, and the list afterwards
-use Prim.Native.Nat.{ℕ, _+_, _*_, _<_}
+use Prim.Native.Nat.{ℕ, _*_, _<_}
 use mathlib.Core.Bool.{Bool, cond, _&&_}
 use mathlib.Core.Path.{_≡_}
 use mathlib.Core.List.{List}
@@ -20,13 +19,12 @@ use lib.Dec.{ltb}
 use lib.ListN.{length, getD}
 use lib.Seq.{sets}
 use Rattle.numbers.specs.Below.{sel}
-use Rattle.records.specs.Sizes.{slotSize, blockCells}
+use Rattle.records.specs.Sizes.{blockCells}
 use Rattle.windows.specs.declared.Window.{Window}
 use Rattle.slots.specs.declared.State.{State}
 use Rattle.slots.specs.declared.State.the-variants.{Live}
 use Rattle.slots.specs.Slots.{slotOf, stateOf, sameState}
 use Rattle.windows.specs.Windows.{windowGood, meetsWindow}
-use Rattle.chain.specs.Cells.{cellIn}
 use Rattle.accept.specs.declared.Verdict.{Verdict}
 use Rattle.accept.specs.declared.Verdict.the-variants as verdicts
 use Rattle.judge.specs.Rules.{slotAt}
@@ -64,9 +62,6 @@ wantedAt m k w p = sameState k (stateOf (slotOf m p)) && meetsWindow (slotOf m p
 abbrev pub wantedIn : List ℕ → State → Window → ℕ → Bool
 wantedIn m k w s = wantedAt m k w (slotAt m s)
 
-abbrev pub SlotsOf : List ℕ → ℕ → ℕ → Type 0
-SlotsOf m b first = (j : ℕ) → j < blockCells → slotAt m (first + j) ≡ cellIn b slotSize j
-
 abbrev pub liveIn : List ℕ → Window → ℕ → Bool
 liveIn m w s = wantedIn m Live w s
 
@@ -80,9 +75,17 @@ abbrev pub found : List ℕ → ℕ → Window → List ℕ
 found m n w = selected m n Live w
 
 unfoldable pub answerFor : Verdict → (ℕ → List ℕ) → Bool → ℕ → SearchAnswer
+-- 1 to 7: the check's
 answerFor (verdicts.Refused n p) hits good room = Refused n p
 answerFor (verdicts.Accepted n) hits good room =
-    cond good (cond (ltb room (length (hits n))) (Short (length (hits n))) (Found (length (hits n)) n)) (Refused 8 0)
+    cond good
+    (cond (ltb room (length (hits n)))
+    -- 9: "list shorter than the count"
+    (Short (length (hits n)))
+    -- "the count found and the blocks walked, which is the chain's length"
+    (Found (length (hits n)) n))
+    -- 8: "window with left > right or bottom > top"
+    (Refused 8 0)
 
 unfoldable pub answerOf : List ℕ → ℕ → Window → ℕ → SearchAnswer
 answerOf m used w room = answerFor (verdict m used) (λ n. found m n w) (windowGood w) room

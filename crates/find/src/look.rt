@@ -23,8 +23,8 @@ ghost use Rattle.judge.specs.Indexed.{Indexed};
 ghost use Rattle.judge.specs.Judging.{badSlot};
 ghost use Rattle.accept.specs.Opens.{Open};
 ghost use Rattle.accept.specs.Verdicts.{slotsJudged};
-ghost use Rattle.find.specs.Searches.{SlotsOf, liveIn, found};
-ghost use Rattle.find.specs.Looks.{blockWords, slotFrom, liveFrom, Marked};
+ghost use Rattle.find.specs.Searches.{liveIn, found};
+ghost use Rattle.find.specs.Looks.{blockWords, slotFrom, liveFrom, Marked, SlotsOf};
 
 // What a word's slots are: the first at fault, 64 where none is. Where none is, which of them are live and meet the window, as bits, the first the lowest.
 struct Word {

@@ -1,3 +1,4 @@
+-- For inner contracts: a reader of the promises may skip this file.
 -- One pass over the records of a journal j, and the trees in which a number is looked for among few of them. Links l are first the roots of b trees, then two for
 -- each record: a link is 0, or 1 + the record that it leads to.
 --     bitsOf b e d         the spread of number e over b trees after d steps down: over 4,294,967,296, its whole part tells the tree, and after that the side

@@ -19,7 +19,8 @@ use Rattle.chain.specs.Tables.{Empty, Placed, Filled, Table, EndsTable, kindRul
 use Rattle.chain.proofs.Chains.{Pass, few, fault-tells}
 use Rattle.chain.proofs.Tables.{rule-ranges, rule-other}
 use Rattle.chain.proofs.Filling.{empty-filled}
-use Rattle.judge.specs.Rules.{indexRule, symbolRule, indexKind, symbolKind}
+use Rattle.judge.specs.Rules.{indexRule, symbolRule}
+use Rattle.judge.specs.Kinds.{indexKind, symbolKind}
 use Rattle.judge.proofs.Judging.{same-touch}
 
 -- ---- index blocks

@@ -1,4 +1,4 @@
--- For the contracts within the check, the search and the edits: a map with the table of its index blocks.
+-- For inner contracts: a reader of the promises may skip this file. A map with the table of its index blocks.
 --     Indexed m used t     the first `used` bytes of the buffer m have a map's length at most, and the table t is filled, with an entry for each of their pages
 use Prim.Native.Nat.{ℕ, _+_, _*_, _≤_}
 use mathlib.Core.List.{List}

@@ -22,7 +22,7 @@ ghost use Rattle.records.specs.Sizes.{indexBlockSize, mapLimit};
 ghost use Rattle.slots.specs.Slots.{slotOf, lenGood, bytesIn, bytesInRange};
 ghost use Rattle.chain.specs.Tables.{endsMeet};
 ghost use Rattle.judge.specs.Indexed.{Indexed};
-ghost use Rattle.judge.specs.Rules.{indexKind, symbolKind};
+ghost use Rattle.judge.specs.Kinds.{indexKind, symbolKind};
 ghost use Rattle.judge.specs.Judging.{partGood, headerFits, objectGood, slotGood, badSlot, symbolGood, badEntry};
 
 // Setup or info: absent, or behind the header and inside the map.

@@ -3,8 +3,7 @@
 use mathlib.Core.Path.{sym, ap, _∙_}
 use denote.Ref.{now}
 use borrow.Author.Needs.{needs}
-use Rattle.accept.specs.Slots.{withFree}
-use Rattle.accept.specs.Opens.{afterOpened}
+use Rattle.accept.specs.Opens.{afterOpened, withFree}
 use Rattle.accept.proofs.Slots.{accepted-free}
 use Rattle.accept.proofs.Opens.{verdict-opened, accepted-open}
 use Rattle.accept.proofs.examine.Statement.{statement}

@@ -3,8 +3,7 @@ use mathlib.Core.Path.{sym, ap, subst, _∙_}
 use denote.Ref.{now}
 use borrow.Author.Needs.{needs}
 use Rattle.accept.specs.declared.OpenedMap.{OpenedMap}
-use Rattle.accept.specs.Slots.{withFree}
-use Rattle.accept.specs.Opens.{afterOpened, Opens}
+use Rattle.accept.specs.Opens.{afterOpened, Opens, withFree}
 use Rattle.accept.proofs.examine_opened.Statement.{statement}
 use Rattle.accept.proofs.examine_opened.Tie as tie
 

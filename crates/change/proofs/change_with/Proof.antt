@@ -11,7 +11,8 @@ use Rattle.frame.proofs.Writes.{slot-lies}
 use Rattle.edit.specs.declared.EditStart.the-variants as starts
 use Rattle.change.specs.declared.NewSym.the-variants.{Write}
 use Rattle.change.specs.NewSyms.{newSymFor}
-use Rattle.edit.specs.Edits.{startOf, Roomy, Known}
+use Rattle.edit.specs.Edits.{startOf}
+use Rattle.edit.specs.Lent.{Roomy, Known}
 use Rattle.edit.proofs.Edits.{blocks-fit, known-by, start-held, start-new, start-records, parts, said}
 use Rattle.change.proofs.Changing.{sym-write, allowed-exists, repeat-map, repeat-journal, changed-refused, changed-held, changed-none, changed-write}
 use borrow.Author.Needs.{needs}

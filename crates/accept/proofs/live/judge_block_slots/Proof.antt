@@ -10,7 +10,7 @@ use Rattle.records.specs.Sizes.{indexBlockSize, slotSize}
 use Rattle.chain.specs.Cells.{cellIn}
 use Rattle.chain.specs.Tables.{endsMeet}
 use Rattle.judge.specs.Judging.{badSlot, noLen}
-use Rattle.accept.specs.Slots.{firstFree, freeIn}
+use Rattle.accept.specs.Opens.{firstFree, freeIn}
 use Rattle.accept.proofs.Firsts.{firstOr, or-found, or-not, or-none, or-all}
 use Rattle.judge.proofs.States.{no-len, has-len, fault-free}
 use Rattle.accept.proofs.Looking.{Looking, look-start, look-on, look-found, look-none}

@@ -19,7 +19,8 @@ use Rattle.chain.proofs.Chains.{walked-pass}
 use Rattle.accept.specs.declared.ExaminedMap.the-variants.{Accepted}
 use Rattle.judge.specs.Rules.{indexRule, touches}
 use Rattle.judge.specs.Judging.{versionOf, badSlot, noLen}
-use Rattle.accept.specs.Slots.{slotIn, freeSlot, firstFree, freeIn}
+use Rattle.accept.specs.Slots.{slotIn, freeSlot}
+use Rattle.accept.specs.Opens.{firstFree, freeIn}
 use Rattle.accept.specs.Verdicts.{slotsJudgedOf}
 use Rattle.judge.proofs.Judging.{same-touch}
 use Rattle.accept.proofs.Firsts.{first-same, firstOr, or-run, or-none, or-all}
