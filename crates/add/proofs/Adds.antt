@@ -24,7 +24,8 @@ use Rattle.judge.specs.Judging.{versionOf, badSlot}
 use Rattle.accept.proofs.Accepting.{Holds}
 use Rattle.judge.proofs.Telling.{bad-good, bad-dead}
 use Rattle.frame.proofs.Frame.{Change, touch-same, slot-kept, version-same, change-accepted, change-trans}
-use Rattle.frame.proofs.Writes.{pass-of, slot-lies, link-low, store-change, store-place, store-other, grow-change, grow-place, grow-slot, grow-link, block-change, block-place, block-old, block-new}
+use Rattle.frame.proofs.Writes.{pass-of, slot-lies, link-low, store-change, store-place, store-other, grow-change, grow-place, grow-slot, grow-link}
+use Rattle.frame.proofs.NewBlock.{block-change, block-place, block-old, block-new}
 use Rattle.accept.specs.Slots.{slotIn}
 use Rattle.add.specs.Objects.{blockFor}
 use Rattle.add.specs.Adds.{slotAdded}

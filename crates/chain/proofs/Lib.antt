@@ -1,7 +1,8 @@
 -- The laws of the definitions in specs/: no one function's own.
 --     Pigeon     how many ranges fit, and division by any positive number
 --     Tables     the table of the blocks
---     Filling    the filled table
+--     Filling    filling a table makes a filled one
+--     Filled     what a filled table tells of a range
 --     Chains     links, blocks, and what the walk answers
 --     Walking    the invariant of a walk
 --     Cells      where the cells stand
@@ -10,6 +11,7 @@
 pub mod Pigeon
 pub mod Tables
 pub mod Filling
+pub mod Filled
 pub mod Chains
 pub mod Walking
 pub mod Cells

@@ -2,8 +2,10 @@
 --     Below       more of `any`: tests that agree, and a test made of two
 --     Records     a record's shape, and the records in use
 --     Journals    a journal that is well formed, what holds a number, and a journal with one record more
---     Passes      what the trees tell of a number, and the pass over the records
+--     Trees       what the trees tell of a number, and a record put in them
+--     Passes      the pass over the records, and what its answer makes of a look
 pub mod Below
 pub mod Records
 pub mod Journals
+pub mod Trees
 pub mod Passes

@@ -4,7 +4,7 @@ use mathlib.Core.Path.{sym, ap, _∙_}
 use mathlib.Core.Bool.{not}
 use denote.Ref.{now}
 use Rattle.chain.specs.Tables.{kindRule}
-use Rattle.chain.proofs.Filling.{bounds-less}
+use Rattle.chain.proofs.Filled.{bounds-less}
 use Rattle.chain.proofs.Walking.{good-low, good-high, good-taboo, good-is}
 use borrow.Author.Needs.{needs}
 use Rattle.chain.proofs.can_be_block.Statement.{statement}

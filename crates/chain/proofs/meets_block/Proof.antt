@@ -8,7 +8,7 @@ use borrow.Author.Needs.{needs}
 use borrow.Author.Tests.{lt-ltb, le-ltb}
 use denote.Ref.{now}
 use Rattle.chain.specs.Tables.{endsMeet}
-use Rattle.chain.proofs.Filling.{lastEnd, meets-end}
+use Rattle.chain.proofs.Filled.{lastEnd, meets-end}
 use Rattle.chain.proofs.Pigeon.{page-in}
 use Rattle.chain.proofs.meets_block.Statement.{statement}
 use Rattle.chain.proofs.meets_block.Tie as tie

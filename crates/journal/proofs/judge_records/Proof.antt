@@ -11,7 +11,8 @@ use borrow.Author.Tests.{eq-eqb, ne-eqb, not-true, not-false}
 use borrow.Author.Needs.{needs}
 use Rattle.records.specs.Journals.{shapeGood, isUnused}
 use Rattle.journal.specs.Journals.{total, slotUsed}
-use Rattle.journal.proofs.Passes.{Passed, Next, passed-none, passed-all, down-within, shape-bad, slot-bad, number-bad, passed-more}
+use Rattle.journal.proofs.Trees.{down-within}
+use Rattle.journal.proofs.Passes.{Passed, Next, passed-none, passed-all, shape-bad, slot-bad, number-bad, passed-more}
 use Rattle.journal.proofs.judge_records.Statement.{statement}
 use Rattle.journal.proofs.judge_records.Tie as tie
 

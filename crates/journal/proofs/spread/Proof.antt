@@ -2,7 +2,7 @@
 use Prim.Native.Nat.{_*_}
 use native.Mathlib.Omega.{arith}
 use Rattle.journal.specs.Passes.{bitsOf}
-use Rattle.journal.proofs.Passes.{spread-below}
+use Rattle.journal.proofs.Trees.{spread-below}
 use borrow.Author.Needs.{needs}
 use Rattle.journal.proofs.spread.Statement.{statement}
 use Rattle.journal.proofs.spread.Tie as tie

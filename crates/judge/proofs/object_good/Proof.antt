@@ -9,7 +9,7 @@ use denote.Ref.{now}
 use Rattle.records.specs.Sizes.{objectHeaderSize}
 use lib.ListN.{length, length-take, length-drop}
 use Rattle.numbers.proofs.Ranges.{within-low, within-high, within-is}
-use Rattle.chain.proofs.Filling.{filled-less}
+use Rattle.chain.proofs.Filled.{filled-less}
 use Rattle.judge.specs.Judging.{objectGood}
 use Rattle.judge.proofs.Judging.{fails, passes, object-part, in-range, out-of-range}
 use borrow.Author.Needs.{needs}

@@ -1,6 +1,6 @@
 -- `judge::symbol_good` meets its contract: each test that fails settles the answer, and the last one is the table's. Assumes nothing.
 use Rattle.numbers.proofs.Ranges.{within-low, within-high, within-is}
-use Rattle.chain.proofs.Filling.{filled-less}
+use Rattle.chain.proofs.Filled.{filled-less}
 use Rattle.judge.specs.Judging.{symbolGood}
 use Rattle.judge.proofs.Judging.{fails, passes, size-two}
 use native.Mathlib.Omega.{arith}
