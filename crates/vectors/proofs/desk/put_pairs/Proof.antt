@@ -1,10 +1,10 @@
--- `vectors::put_pairs` is safe: a store keeps the length. The measure is what is left of the pairs. Assumes nothing.
+-- `vectors::desk::put_pairs` is safe: a store keeps the length. The measure is what is left of the pairs. Assumes nothing.
 use Prim.Native.Nat.{_-_}
 use mathlib.Core.Path.{_≡_}
 use borrow.Author.Needs.{needs}
 use lib.ListN.{length}
-use Rattle.vectors.proofs.put_pairs.Statement.{statement}
-use Rattle.vectors.proofs.put_pairs.Tie as tie
+use Rattle.vectors.proofs.desk.put_pairs.Statement.{statement}
+use Rattle.vectors.proofs.desk.put_pairs.Tie as tie
 
 abbrev Inv-loop : tie.InvT-loop
 Inv-loop s₀ pairs v i₀ s i = length s ≡ length s₀

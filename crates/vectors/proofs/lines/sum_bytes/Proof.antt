@@ -1,9 +1,9 @@
--- `vectors::sum_bytes` is safe: the sum stays a number of 32 bits. The measure is what is left of the bytes. Assumes nothing.
+-- `vectors::lines::sum_bytes` is safe: the sum stays a number of 32 bits. The measure is what is left of the bytes. Assumes nothing.
 use Prim.Native.Nat.{_-_, _<_}
 use borrow.Author.Needs.{needs}
 use lib.ListN.{length}
-use Rattle.vectors.proofs.sum_bytes.Statement.{statement}
-use Rattle.vectors.proofs.sum_bytes.Tie as tie
+use Rattle.vectors.proofs.lines.sum_bytes.Statement.{statement}
+use Rattle.vectors.proofs.lines.sum_bytes.Tie as tie
 
 abbrev Inv-loop : tie.InvT-loop
 Inv-loop s sum₀ i₀ sum i = sum < 4294967296

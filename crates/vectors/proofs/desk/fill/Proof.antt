@@ -1,10 +1,10 @@
--- `vectors::fill` is safe: a store keeps the length. The measure is what is left of the part. Assumes nothing.
+-- `vectors::desk::fill` is safe: a store keeps the length. The measure is what is left of the part. Assumes nothing.
 use Prim.Native.Nat.{_-_}
 use mathlib.Core.Path.{_≡_}
 use borrow.Author.Needs.{needs}
 use lib.ListN.{length}
-use Rattle.vectors.proofs.fill.Statement.{statement}
-use Rattle.vectors.proofs.fill.Tie as tie
+use Rattle.vectors.proofs.desk.fill.Statement.{statement}
+use Rattle.vectors.proofs.desk.fill.Tie as tie
 
 abbrev Inv-loop : tie.InvT-loop
 Inv-loop s₀ v i₀ s i = length s ≡ length s₀
