@@ -33,8 +33,7 @@ ghost use Rattle.records.specs.Sizes.{headerSize, indexBlockSize, slotSize, map
 ghost use Rattle.records.specs.Headers.{indexHead};
 ghost use Rattle.slots.specs.Slots.{slotOf, slotBytes};
 ghost use Rattle.chain.specs.Chains.{place};
-ghost use Rattle.chain.specs.Tables.{Empty};
-ghost use Rattle.chain.specs.Cells.{Ordered};
+ghost use Rattle.chain.specs.Tables.{Empty, Ordered};
 ghost use Rattle.judge.specs.Judging.{versionOf};
 ghost use Rattle.accept.specs.Verdicts.{verdict};
 ghost use Rattle.accept.specs.declared.Verdict.the-variants.{Accepted};

@@ -12,7 +12,8 @@ use lib.Seq.{getD-set-same, getD-set-other}
 use Rattle.numbers.proofs.Coordinates.{lt-or-ge}
 use Rattle.records.specs.Sizes.{headerSize}
 use Rattle.chain.specs.Chains.{Rule, place, block}
-use Rattle.chain.specs.Cells.{cellIn, cellAt, Ordered}
+use Rattle.chain.specs.Cells.{cellIn, cellAt}
+use Rattle.chain.specs.Tables.{Ordered}
 use Rattle.chain.proofs.Chains.{Pass, apart, place-suc}
 
 -- cell j of block k, by its number

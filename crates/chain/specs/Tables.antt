@@ -21,6 +21,7 @@
 --     goodBlock r t used p      whether p can be a block of the map, by the table of the blocks before it
 --     Bounds k end other        what the test of a kind needs of a block that ends at `end`: numbers small enough, and another table that reaches as far
 --     Ready k used other t      what a walk needs: the same for every block of the map, and a table of its own that reaches as far
+--     Ordered h m n o           the first n entries of o are the first n blocks of the chain whose first link stands at h, in their order
 use Prim.Native.Nat.{ℕ, zero, suc, _+_, _-_, _*_, _/_, _≤_, _<_}
 use mathlib.Core.Bool.{Bool, not, cond, _&&_, _||_}
 use mathlib.Core.List.{List, [], _∷_}
@@ -110,3 +111,6 @@ pub record Ready (k : Kind) (used : ℕ) (other t : List ℕ) : Type 0 where
   pub page-least : 0 < k .page
   pub page-most : k .page ≤ k .size
   pub wide : used + k .page ≤ length t * k .page
+
+abbrev pub Ordered : ℕ → List ℕ → ℕ → List ℕ → Type 0
+Ordered h m n o = (k : ℕ) → k < n → getD o k 0 ≡ block h m k

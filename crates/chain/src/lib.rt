@@ -5,8 +5,7 @@ ghost use mathlib.Core.Path.{_≡_};
 ghost use Prim.Native.Nat.{ℕ, _+_, _-_, _*_, _≤_, _<_};
 ghost use lib.ListN.{length, getD};
 ghost use Rattle.chain.specs.Chains.{block, walked, taken};
-ghost use Rattle.chain.specs.Tables.{Empty, Placed, Table, Carried, Filled, entryMeets, tableMeets, endsMeet, keepsOff, kindRule, goodBlock, Bounds, Ready};
-ghost use Rattle.chain.specs.Cells.{Ordered};
+ghost use Rattle.chain.specs.Tables.{Empty, Placed, Table, Carried, Filled, entryMeets, tableMeets, endsMeet, keepsOff, kindRule, goodBlock, Bounds, Ready, Ordered};
 ghost use Rattle.records.specs.Sizes.{linkSize, mapLimit};
 
 // What a walk answers: the number of blocks; or the place of the first link at fault, and the number of blocks before it.

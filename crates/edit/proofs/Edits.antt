@@ -7,8 +7,7 @@ use lib.ListN.{length}
 use Rattle.records.specs.Sizes.{headerSize, indexBlockSize, indexPage, mostBlocks}
 use Rattle.records.specs.Headers.{indexHead}
 use Rattle.chain.specs.Chains.{block}
-use Rattle.chain.specs.Tables.{Filled, EndsTable}
-use Rattle.chain.specs.Cells.{Ordered}
+use Rattle.chain.specs.Tables.{Filled, EndsTable, Ordered}
 use Rattle.chain.proofs.Chains.{few}
 use Rattle.accept.specs.declared.Verdict.{Verdict}
 use Rattle.accept.specs.declared.Verdict.the-variants as verdicts
@@ -17,7 +16,8 @@ use Rattle.accept.proofs.Accepting.{Holds}
 use Rattle.judge.proofs.Rules.{most-blocks}
 use Rattle.frame.proofs.Writes.{pass-of, slot-lies}
 use Rattle.journal.specs.declared.JournalLook.{JournalLook}
-use Rattle.journal.specs.Journals.{inUse, looked, Reach}
+use Rattle.journal.specs.Journals.{inUse, looked}
+use Rattle.journal.specs.Passes.{Reach}
 use Rattle.journal.proofs.Journals.{looked-new}
 use Rattle.edit.specs.declared.EditAnswer.{EditAnswer}
 use Rattle.edit.specs.declared.EditAnswer.the-variants.{Refused}

@@ -4,8 +4,7 @@ use mathlib.Core.List.{List}
 use lib.ListN.{length}
 use Rattle.records.specs.Sizes.{headerSize, indexBlockSize, indexPage}
 use Rattle.records.specs.Headers.{indexHead}
-use Rattle.chain.specs.Tables.{Filled, EndsTable}
-use Rattle.chain.specs.Cells.{Ordered}
+use Rattle.chain.specs.Tables.{Filled, EndsTable, Ordered}
 
 -- the tables that an edit is lent have room for a map of so many bytes
 pub record Roomy (used : ℕ) (index order : List ℕ) : Type 0 where

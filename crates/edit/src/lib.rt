@@ -11,7 +11,7 @@ ghost use lib.ListN.{length};
 ghost use Rattle.records.specs.Sizes.{headerSize, indexBlockSize, mapLimit};
 ghost use Rattle.records.specs.Headers.{indexHead};
 ghost use Rattle.chain.specs.Chains.{place};
-ghost use Rattle.chain.specs.Cells.{Ordered};
+ghost use Rattle.chain.specs.Tables.{Ordered};
 ghost use Rattle.accept.specs.Opens.{withFree};
 ghost use Rattle.accept.specs.Verdicts.{verdict};
 ghost use Rattle.accept.specs.declared.Verdict.the-variants.{Accepted};

@@ -18,7 +18,8 @@ use Rattle.records.specs.declared.JournalRecord.{JournalRecord}
 use Rattle.records.specs.Sizes.{journalRecordSize, journalLimit}
 use Rattle.records.specs.Journals.{recordFor, shapeGood, isUnused}
 use Rattle.journal.specs.Journals.{recordIn, total, inUse, slotUsed, recordGood, wellFormed, holder, isHeld, looked}
-use Rattle.journal.specs.Passes.{Linked, Comes, heldIn, judged}
+use Rattle.journal.specs.Passes.{heldIn, judged}
+use Rattle.journal.specs.Trees.{Linked, Comes}
 use Rattle.journal.specs.declared.JudgedJournal.{JudgedJournal}
 use Rattle.journal.specs.declared.JudgedJournal.the-variants.{Bad, Good}
 use Rattle.journal.specs.declared.JournalLook.the-variants.{Malformed, Held, New}

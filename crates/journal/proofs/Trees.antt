@@ -18,7 +18,7 @@ use Rattle.numbers.proofs.Below.{any-at, any-none}
 use Rattle.numbers.proofs.Coordinates.{lt-or-ge}
 use Rattle.records.specs.Sizes.{journalRecordSize}
 use Rattle.journal.specs.Journals.{recordIn}
-use Rattle.journal.specs.Passes.{bitsOf, linkOf, Down, Linked, Comes}
+use Rattle.journal.specs.Trees.{bitsOf, linkOf, Down, Linked, Comes}
 
 -- a number of 32 bits, spread over b trees
 pub spread-below : (b e : ℕ) → 0 < b → e % 4294967296 * b < b * 4294967296

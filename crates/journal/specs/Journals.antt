@@ -12,11 +12,10 @@
 --     appended j r            the journal with record r at the first unused place
 --     looked j m n e          what a look into the journal for edit number e answers: malformed (also for number 0), or held, with kind and slot, or new, with
 --                             the number of records in use
---     Reach m o n             what finds each slot of the map: the first n entries of o are its index blocks in their order, and each slot lies inside the bytes
 -- The same journal as a list, for a reader; no contract cites it:
 --     recordsTo j k           the first k records in their order
 --     recordsOf j             the records in use in their order
-use Prim.Native.Nat.{ℕ, zero, suc, _+_, _*_, _/_, _%_, _≤_, _<_}
+use Prim.Native.Nat.{ℕ, zero, suc, _*_, _/_, _%_}
 use mathlib.Core.Bool.{Bool, not, cond, _&&_}
 use mathlib.Core.List.{List, [], _∷_, _++_}
 use lib.Dec.{eqb, leb, ltb}
@@ -24,11 +23,9 @@ use lib.ListN.{length}
 use lib.Seq.{sets}
 use Rattle.numbers.specs.Below.{any, first}
 use Rattle.records.specs.declared.JournalRecord.{JournalRecord}
-use Rattle.records.specs.Sizes.{slotSize, mapLimit, journalRecordSize, journalLimit, blockCells}
-use Rattle.records.specs.Headers.{indexHead}
+use Rattle.records.specs.Sizes.{journalRecordSize, journalLimit, blockCells}
 use Rattle.slots.specs.Slots.{slotOf}
 use Rattle.records.specs.Journals.{recordOf, recordBytes, shapeGood, isUnused}
-use Rattle.chain.specs.Cells.{Ordered}
 use Rattle.judge.specs.Rules.{slotAt}
 use Rattle.journal.specs.declared.JournalLook.{JournalLook}
 use Rattle.journal.specs.declared.JournalLook.the-variants.{Malformed, Held, New}
@@ -74,12 +71,6 @@ looked j m n e =
     cond (not (eqb e 0) && wellFormed j m n)
     (cond (isHeld j e) (Held (recordIn j (holder j e) .kind) (recordIn j (holder j e) .slot)) (New (inUse j)))
     Malformed
-
-pub record Reach (m o : List ℕ) (n : ℕ) : Type 0 where
-  pub known : n ≤ length o
-  pub few : n ≤ mapLimit
-  pub ordered : Ordered indexHead m n o
-  pub inside : (s : ℕ) → s < blockCells * n → slotAt m s + slotSize ≤ length m
 
 unfoldable pub recordsTo : List ℕ → ℕ → List JournalRecord
 recordsTo j zero = []

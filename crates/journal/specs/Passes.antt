@@ -1,52 +1,23 @@
--- For inner contracts: a reader of the promises may skip this file.
--- One pass over the records of a journal j, and the trees in which a number is looked for among few of them. Links l are first the roots of b trees, then two for
--- each record: a link is 0, or 1 + the record that it leads to.
---     bitsOf b e d         the spread of number e over b trees after d steps down: over 4,294,967,296, its whole part tells the tree, and after that the side
---     linkOf b l e d       the link at which number e stands after d steps down
---     Down b l e at        number e comes down to link `at`, by links that are not 0
---     Linked b j l i       the first i records are in the trees: each one's number comes down to its link, and the links below a record lead to later ones
---     Comes b j l e at     number e comes down to `at` past records of other numbers, and `at` is 0 or leads to a record that has it
---     heldIn j e i         the last of the first i records that has number e, and the record that is all zero where none has
---     judged j m n e       what the pass answers beside a map m of n index blocks: that a record in use is not good, or how many are in use and which of them
---                          holds number e
-use Prim.Native.Nat.{ℕ, zero, suc, _+_, _-_, _*_, _/_, _%_, _≤_, _<_}
+-- For inner contracts: a reader of the promises may skip this file. One pass over the records of a journal j.
+--     Reach m o n             what finds each slot of the map: the first n entries of o are its index blocks in their order, and each slot lies inside the bytes
+--     heldIn j e i            the last of the first i records that has number e, and the record that is all zero where none has
+--     judged j m n e          what the pass answers beside a map m of n index blocks: that a record in use is not good, or how many are in use and which of them
+--                             holds number e
+use Prim.Native.Nat.{ℕ, zero, suc, _+_, _*_, _≤_, _<_}
 use mathlib.Core.Bool.{not, cond}
 use mathlib.Core.List.{List}
-use mathlib.Core.Path.{_≡_}
 use lib.Dec.{eqb}
-use lib.ListN.{length, getD}
+use lib.ListN.{length}
 use Rattle.numbers.specs.Below.{any}
 use Rattle.records.specs.declared.JournalRecord.{JournalRecord}
-use Rattle.records.specs.Sizes.{journalRecordSize}
 use Rattle.records.specs.Journals.{recordFor}
 use Rattle.journal.specs.Journals.{recordIn, inUse, recordGood}
 use Rattle.journal.specs.declared.JudgedJournal.{JudgedJournal}
 use Rattle.journal.specs.declared.JudgedJournal.the-variants.{Bad, Good}
-
-unfoldable pub bitsOf : ℕ → ℕ → ℕ → ℕ
-bitsOf b e zero = e * 2654435769 % 4294967296 * b
-bitsOf b e (suc d) = bitsOf b e d % 4294967296 * 2
-
-unfoldable pub linkOf : ℕ → List ℕ → ℕ → ℕ → ℕ
-linkOf b l e zero = bitsOf b e zero / 4294967296
-linkOf b l e (suc d) = b + 2 * (getD l (linkOf b l e d) 0 - 1) + bitsOf b e (suc d) / 4294967296
-
-pub record Down (b : ℕ) (l : List ℕ) (e at : ℕ) : Type 0 where
-  pub steps : ℕ
-  pub links : (c : ℕ) → c < steps → 0 < getD l (linkOf b l e c) 0
-  pub stands : at ≡ linkOf b l e steps
-
-pub record Linked (b : ℕ) (j l : List ℕ) (i : ℕ) : Type 0 where
-  pub inside : journalRecordSize * i ≤ length j
-  pub room : b + 2 * i ≤ length l
-  pub within : (at : ℕ) → getD l at 0 ≤ i
-  pub rises : (at : ℕ) → 0 < getD l at 0 → at < b + 2 * (getD l at 0 - 1)
-  pub leads : (k : ℕ) → k < i → (at : ℕ) × Down b l (recordIn j k .number) at × (getD l at 0 ≡ k + 1)
-
-pub record Comes (b : ℕ) (j l : List ℕ) (e at : ℕ) : Type 0 where
-  pub down : Down b l e at
-  pub others : (c : ℕ) → c < down .steps → recordIn j (getD l (linkOf b l e c) 0 - 1) .number ≡ e → ⊥
-  pub own : 0 < getD l at 0 → recordIn j (getD l at 0 - 1) .number ≡ e
+use Rattle.records.specs.Sizes.{slotSize, mapLimit, blockCells}
+use Rattle.records.specs.Headers.{indexHead}
+use Rattle.chain.specs.Tables.{Ordered}
+use Rattle.judge.specs.Rules.{slotAt}
 
 unfoldable pub heldIn : List ℕ → ℕ → ℕ → JournalRecord
 heldIn j e zero = recordFor 0 0 0
@@ -54,3 +25,9 @@ heldIn j e (suc k) = cond (eqb (recordIn j k .number) e) (recordIn j k) (heldIn 
 
 unfoldable pub judged : List ℕ → List ℕ → ℕ → ℕ → JudgedJournal
 judged j m n e = cond (any (λ i. not (recordGood j m n i)) (inUse j)) Bad (Good (inUse j) (heldIn j e (inUse j)))
+
+pub record Reach (m o : List ℕ) (n : ℕ) : Type 0 where
+  pub known : n ≤ length o
+  pub few : n ≤ mapLimit
+  pub ordered : Ordered indexHead m n o
+  pub inside : (s : ℕ) → s < blockCells * n → slotAt m s + slotSize ≤ length m

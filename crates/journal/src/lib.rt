@@ -12,11 +12,11 @@ ghost use Rattle.numbers.specs.Below.{any};
 ghost use Rattle.records.specs.Sizes.{journalRecordSize, journalLimit, blockCells};
 ghost use Rattle.records.specs.Headers.{indexHead};
 ghost use Rattle.records.specs.Journals.{isUnused};
-ghost use Rattle.chain.specs.Cells.{Ordered};
-ghost use Rattle.chain.specs.Tables.{Empty};
+ghost use Rattle.chain.specs.Tables.{Empty, Ordered};
 ghost use Rattle.judge.specs.Rules.{slotAt};
-ghost use Rattle.journal.specs.Journals.{recordIn, total, inUse, slotUsed, isFull, appended, looked, Reach};
-ghost use Rattle.journal.specs.Passes.{bitsOf, Linked, Comes, judged};
+ghost use Rattle.journal.specs.Journals.{recordIn, total, inUse, slotUsed, isFull, appended, looked};
+ghost use Rattle.journal.specs.Passes.{judged, Reach};
+ghost use Rattle.journal.specs.Trees.{bitsOf, Linked, Comes};
 
 // What a look into a journal for an edit number answers. `used` is the number of records in use.
 pub enum JournalLook {

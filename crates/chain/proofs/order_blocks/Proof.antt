@@ -5,7 +5,7 @@ use mathlib.Core.Path.{_≡_, refl, sym, _∙_}
 use lib.ListN.{length, length-set, getD}
 use denote.Ref.{now}
 use Rattle.chain.specs.Chains.{place, block}
-use Rattle.chain.specs.Cells.{Ordered}
+use Rattle.chain.specs.Tables.{Ordered}
 use Rattle.chain.proofs.Chains.{place-more, block-at}
 use Rattle.chain.proofs.Cells.{ordered-more}
 use borrow.Author.Needs.{needs}

@@ -5,7 +5,7 @@ use mathlib.Core.Path.{_≡_, sym, ap, _∙_}
 use native.Mathlib.Omega.{arith}
 use denote.Ref.{now}
 use Rattle.records.specs.Headers.{indexHead}
-use Rattle.chain.specs.Cells.{Ordered}
+use Rattle.chain.specs.Tables.{Ordered}
 use Rattle.accept.specs.declared.Verdict.the-variants.{Accepted}
 use Rattle.accept.specs.Verdicts.{verdict}
 use Rattle.accept.specs.Slots.{freeSlot}

@@ -4,7 +4,7 @@ use Prim.Native.Nat.{ℕ, _-_, _*_, _≤_, _<_}
 use native.Mathlib.Omega.{arith}
 use lib.ListN.{length, getD}
 use denote.Ref.{now}
-use Rattle.journal.specs.Passes.{Linked}
+use Rattle.journal.specs.Trees.{Linked}
 use Rattle.journal.proofs.Trees.{Going, going-first, going-on, going-none, going-found, down-within}
 use Rattle.journal.proofs.link_for.Statement.{statement}
 use Rattle.journal.proofs.link_for.Tie as tie

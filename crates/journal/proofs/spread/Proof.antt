@@ -1,7 +1,7 @@
 -- `journal::spread` meets its contract: the definition's own product. Assumes nothing.
 use Prim.Native.Nat.{_*_}
 use native.Mathlib.Omega.{arith}
-use Rattle.journal.specs.Passes.{bitsOf}
+use Rattle.journal.specs.Trees.{bitsOf}
 use Rattle.journal.proofs.Trees.{spread-below}
 use borrow.Author.Needs.{needs}
 use Rattle.journal.proofs.spread.Statement.{statement}
