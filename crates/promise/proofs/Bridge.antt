@@ -8,7 +8,7 @@ use native.Mathlib.Decide.{ℕ-discrete}
 use Rattle.slots.specs.declared.State.the-variants.{Live}
 use Rattle.records.specs.Journals.{recordFor}
 use Rattle.journal.proofs.Records.{shape-tells}
-use Rattle.promise.specs.Runs.{State, Call, add, remove, reinstate, search, edited, step, Event, made, handed, withBuffer, run, recordOf, isLiveIn, Good, Sent, HoldsMap, Fair}
+use Rattle.promise.specs.Runs.{State, Call, add, remove, reinstate, search, edited, step, Event, made, handed, withBuffer, run, recordDue, isLiveIn, Good, Sent, HoldsMap, Fair}
 use Rattle.promise.specs.Promises.{Removes, NoneRemoves, Footbridge}
 use Rattle.promise.proofs.Whole.{has-same}
 use Rattle.promise.proofs.Keeping.{Did, Idle, holds-of, call-cases, step-good, handed-same, turn-good}
@@ -67,7 +67,7 @@ footbridge st e f s xs ys g a b sx sy i₁ i₂ keep =
     let x₃ = dormant-turn (x₂ .0) (st .map) s (x₂ .1) (made (reinstate f s)) b in
     let x₄ = dormant-run (x₃ .0) (st .map) s (x₃ .1) ys sy in
     record {
-      said = ap edited (repeated g₄ e 2 s (keeps-run g₃ ys sy k₃) (shape-tells (recordOf (remove e s) (d₁ .slot)) (d₁ .shape) .number));
+      said = ap edited (repeated g₄ e 2 s (keeps-run g₃ ys sy k₃) (shape-tells (recordDue (remove e s) (d₁ .slot)) (d₁ .shape) .number));
       unchanged = never-acts-again (step (run (step st (remove e s)) xs) (reinstate f s)) ys (remove e s) g₃ sy a (k₃ .held) .0;
       live = live₄;
       content = dormant-content (x₄ .0) (st .map) s (x₄ .1) live₄;

@@ -12,7 +12,7 @@ use Rattle.accept.proofs.Accepting.{Holds, accepted-is}
 use Rattle.frame.proofs.Writes.{slot-lies}
 use Rattle.accept.specs.Slots.{slotIn}
 use Rattle.change.specs.Slots.{hasState}
-use Rattle.promise.specs.Runs.{State, Call, add, remove, reinstate, search, step, blocksIn, blocksOf, isLiveIn, Content, contentOf, Good, Sent}
+use Rattle.promise.specs.Runs.{State, Call, add, remove, reinstate, search, step, blocksIn, acceptedBlocks, isLiveIn, Content, contentOf, Good, Sent}
 use Rattle.promise.specs.Promises.{Own, ByOne, EditByEdit, SlotBytes, slotPart, objectPart, ContentIsBytes}
 use Rattle.promise.proofs.Bytes.{part-slot}
 use Rattle.promise.proofs.Moves.{Moved}
@@ -24,7 +24,7 @@ use Rattle.promise.proofs.Promises.{blocks-of}
 
 pub live-in : (st : State) {n : ℕ} → Holds (st .map) (st .used) n → (s : ℕ) → isLiveIn st s ≡ hasState Live (st .map) n s
 unfolding isLiveIn
-live-in st {n} h s = rw (ap blocksOf (accepted-is h))
+live-in st {n} h s = rw (ap acceptedBlocks (accepted-is h))
 
 module _ {st : State} (g : Good st) {c : Call} (a : Sent c) (d : Did st c (g .blocks)) where
   h : Holds (st .map) (st .used) (g .blocks)

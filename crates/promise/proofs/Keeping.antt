@@ -29,7 +29,7 @@ use Rattle.change.proofs.Syms.{has-tells}
 use Rattle.edit.specs.Edits as edits
 use Rattle.change.specs.Changes.{changed}
 use Rattle.add.specs.Adds.{added, newLength, slotAdded}
-use Rattle.promise.specs.Runs.{State, Call, add, remove, reinstate, search, edited, Outcome, outcome, ofEdit, lengthAfter, next, step, saysDone, isDone, recordOf, mapOf, grown, Event, made, handed, withBuffer, turn, applied, Good, Sent, HoldsMap, May}
+use Rattle.promise.specs.Runs.{State, Call, add, remove, reinstate, search, edited, CallOutcome, outcome, ofEdit, lengthAfter, next, step, saysDone, isDone, recordDue, mapOf, grown, Event, made, handed, withBuffer, turn, applied, Good, Sent, HoldsMap, May}
 use Rattle.promise.proofs.Bytes.{appended-bytes, sym-bytes, added-bytes}
 use Rattle.promise.proofs.Contents.{can-exists}
 use Rattle.promise.proofs.Whole.{same-of, whole, sym-whole, added-whole, revived-whole, well-same}
@@ -47,16 +47,16 @@ Effect (search w l) m used n m′ s = ⊥
 -- a done call c: its slot and its record, and what it has moved
 pub record Did (st : State) (c : Call) (n : ℕ) : Type 0 where
   pub slot : ℕ
-  pub own : recordOf c slot .slot ≡ slot
+  pub own : recordDue c slot .slot ≡ slot
   pub blocks : ℕ
   pub said : outcome st c .said ≡ edited (Done slot (step st c .used))
   pub moved : Moved (st .map) (step st c .map) (st .used) (step st c .used) n blocks slot
-  pub fresh : isHeld (st .journal) (recordOf c slot .number) ≡ false
+  pub fresh : isHeld (st .journal) (recordDue c slot .number) ≡ false
   pub well : wellFormed (st .journal) (st .map) n ≡ true
   pub room : isFull (st .journal) ≡ false
-  pub fits : RecordFits (recordOf c slot)
-  pub shape : shapeGood (recordOf c slot) ≡ true
-  pub journal : step st c .journal ≡ appended (st .journal) (recordOf c slot)
+  pub fits : RecordFits (recordDue c slot)
+  pub shape : shapeGood (recordDue c slot) ≡ true
+  pub journal : step st c .journal ≡ appended (st .journal) (recordDue c slot)
   pub bytes : Bytes (step st c .map)
   pub applies : mapOf (step st c) ≡ applied c (mapOf st)
   pub effect : Effect c (st .map) (st .used) n (step st c .map) slot
@@ -83,7 +83,7 @@ pub record Idle (st : State) (c : Call) : Type 0 where
 pub idle-of : (st : State) (c : Call) {out : edits.Outcome} → outcome st c ≡ ofEdit out → Still (st .map) (st .journal) out → Idle st c
 unfolding step isDone
 idle-of st c {out} is s =
-    record { same = ap (next (st .used)) is ∙ still-same st out s; idle = ap (λ (x : Outcome). saysDone (x .said)) is ∙ s .idle }
+    record { same = ap (next (st .used)) is ∙ still-same st out s; idle = ap (λ (x : CallOutcome). saysDone (x .said)) is ∙ s .idle }
 
 pub idle-search : (st : State) (w : Window) (l : List ℕ) → Idle st (search w l)
 unfolding step isDone
@@ -97,7 +97,7 @@ module _ {st : State} (g : Good st) where
   h = holds-of g
 
   -- a removal or a reinstatement, by its kind
-  module _ (c : Call) (e kind s : ℕ) (is : outcome st c ≡ ofEdit (changed (st .map) (st .used) (st .journal) e kind s)) (rec : recordOf c s ≡ recordFor e kind s)
+  module _ (c : Call) (e kind s : ℕ) (is : outcome st c ≡ ofEdit (changed (st .map) (st .used) (st .journal) e kind s)) (rec : recordDue c s ≡ recordFor e kind s)
       (applies : allowedFor kind (st .map) (st .used) (g .blocks) s ≡ true → take (st .used) (withSym (st .map) s (symFor kind (st .map) s)) ≡ applied c (mapOf st))
       (effects : allowedFor kind (st .map) (st .used) (g .blocks) s ≡ true → Effect c (st .map) (st .used) (g .blocks) (withSym (st .map) s (symFor kind (st .map) s)) s)
       (least : 1 ≤ kind) (most : kind ≤ 3) (fits : e < 2 ^ 32)
@@ -180,12 +180,12 @@ did-good {st} {c} {n} g d =
     record {
       blocks = d .blocks;
       accepted = accepted-is (d .moved .holds);
-      well = rw (d .journal) (appended-well (st .journal) (st .map) (step st c .map) n (d .blocks) (recordOf c (d .slot)) (d .well) (d .room) (d .fresh) (d .fits) (d .shape) (moved-use (d .moved)) (here d));
+      well = rw (d .journal) (appended-well (st .journal) (st .map) (step st c .map) n (d .blocks) (recordDue c (d .slot)) (d .well) (d .room) (d .fresh) (d .fits) (d .shape) (moved-use (d .moved)) (here d));
       map-bytes = d .bytes;
-      journal-bytes = rw (d .journal) (appended-bytes (st .journal) (recordOf c (d .slot)) (g .journal-bytes));
+      journal-bytes = rw (d .journal) (appended-bytes (st .journal) (recordDue c (d .slot)) (g .journal-bytes));
     }
   where
-    here : (d : Did st c n) → slotUsed (step st c .map) (d .blocks) (recordOf c (d .slot) .slot) ≡ true
+    here : (d : Did st c n) → slotUsed (step st c .map) (d .blocks) (recordDue c (d .slot) .slot) ≡ true
     here d = rw (d .own) (moved-here (d .moved))
 
 pub step-good : {st : State} → Good st → (c : Call) → Sent c → Good (step st c)

@@ -20,7 +20,7 @@ use Rattle.find.specs.Searches.{In}
 use Rattle.journal.specs.Journals.{isHeld, holder, recordIn, recordsOf}
 use Rattle.journal.proofs.Records.{length-recordsOf}
 use Rattle.journal.proofs.Journals.{well-formed-tells, room-of, recordsOf-appended, length-appended, appended-keeps, appended-record-kept, appended-holds}
-use Rattle.promise.specs.Runs.{State, Call, add, remove, reinstate, search, outcome, step, Event, made, handed, withBuffer, turn, run, slotSaid, isDone, doneIn, recordsIn, recordOf, blocksIn, blocksOf, mapOf, appliedAll, Good, Sent, HoldsMap, May, Fair}
+use Rattle.promise.specs.Runs.{State, Call, add, remove, reinstate, search, outcome, step, Event, made, handed, withBuffer, turn, run, slotSaid, isDone, doneIn, recordsIn, recordDue, blocksIn, acceptedBlocks, mapOf, appliedAll, Good, Sent, HoldsMap, May, Fair}
 use Rattle.promise.specs.Promises.{StaysGood, Ends, IndexEnds, SlotNumbersStay, AppliedOnce, JournalGrows, RestZero, editNumber, NeverActsAgain, numbersIn, numbersOf, Once, NumbersOnce, NothingElse}
 use Rattle.promise.proofs.Bytes.{zero-record}
 use Rattle.promise.proofs.Steps.{change-idle, add-idle}
@@ -32,7 +32,7 @@ stays-good st [] g a = g
 stays-good st (x ∷ xs) g a = stays-good (turn st x) xs (turn-good g x (a .0)) (a .1)
 
 pub blocks-of : {st : State} (g : Good st) → blocksIn (st .map) (st .used) ≡ g .blocks
-blocks-of g = ap blocksOf (g .accepted)
+blocks-of g = ap acceptedBlocks (g .accepted)
 
 good-ends : {st : State} → Good st → Ends (st .map) (st .used)
 good-ends {st} g =
@@ -60,14 +60,14 @@ longer-step {st} g c a =
     (λ i. rw (i .same) (record { upto = omega arith; blocks = λ k l. refl }))
     (λ (d : Did st c (g .blocks)).
     let e = blocks-of g in
-    let f : blocksIn (step st c .map) (step st c .used) ≡ d .blocks = ap blocksOf (accepted-is (d .moved .holds)) in
+    let f : blocksIn (step st c .map) (step st c .used) ≡ d .blocks = ap acceptedBlocks (accepted-is (d .moved .holds)) in
     record { upto = omega (arith, e, f, d .moved .change .upto); blocks = λ k l. d .moved .change .blocks k (rw e at l) })
     (call-cases g c a)
 
 longer-handed : {st : State} (g : Good st) {b : List ℕ} → HoldsMap st b → Longer st (withBuffer st b)
 longer-handed {st} g {b} holds =
     let s = handed-same g holds in
-    let e : blocksIn b (st .used) ≡ blocksIn (st .map) (st .used) = ap blocksOf (verdict-same s) in
+    let e : blocksIn b (st .used) ≡ blocksIn (st .map) (st .used) = ap acceptedBlocks (verdict-same s) in
     record { upto = omega (arith, e); blocks = λ k l. block-same s (holds-of g) k (omega (arith, l, blocks-of g)) }
 
 longer-turn : {st : State} → Good st → (x : Event) → May st x → Longer st (turn st x)
@@ -100,9 +100,9 @@ applied-once st (handed b ∷ xs) g a =
 
 -- ---- the journal
 
-did-records : {st : State} {c : Call} {n : ℕ} → Good st → (d : Did st c n) → recordsOf (step st c .journal) ≡ recordsOf (st .journal) ++ (recordOf c (slotSaid (outcome st c .said)) ∷ [])
+did-records : {st : State} {c : Call} {n : ℕ} → Good st → (d : Did st c n) → recordsOf (step st c .journal) ≡ recordsOf (st .journal) ++ (recordDue c (slotSaid (outcome st c .said)) ∷ [])
 did-records {st} {c} {n} g d =
-    rw (d .journal, d .said) (recordsOf-appended (st .journal) (recordOf c (d .slot)) (room-of (st .journal) (st .map) n (d .well) (d .room)) (d .fits) (d .shape))
+    rw (d .journal, d .said) (recordsOf-appended (st .journal) (recordDue c (d .slot)) (room-of (st .journal) (st .map) n (d .well) (d .room)) (d .fits) (d .shape))
 
 pub journal-grows : JournalGrows
 unfolding run recordsIn
@@ -113,8 +113,8 @@ journal-grows st (made c ∷ xs) g a =
     (λ (i : Idle st c). rw (i .idle) (r .0 ∙ ap (λ (x : State). recordsOf (x .journal) ++ recordsIn (step st c) xs) (i .same), r .1 ∙ ap (λ (x : State). length (x .journal)) (i .same)))
     (λ (d : Did st c (g .blocks)).
     rw (did-done d) (
-      r .0 ∙ ap (λ (x : List JournalRecord). x ++ recordsIn (step st c) xs) (did-records g d) ∙ append-assoc (recordsOf (st .journal)) (recordOf c (slotSaid (outcome st c .said)) ∷ []) (recordsIn (step st c) xs),
-      r .1 ∙ ap length (d .journal) ∙ length-appended (st .journal) (recordOf c (d .slot)),
+      r .0 ∙ ap (λ (x : List JournalRecord). x ++ recordsIn (step st c) xs) (did-records g d) ∙ append-assoc (recordsOf (st .journal)) (recordDue c (slotSaid (outcome st c .said)) ∷ []) (recordsIn (step st c) xs),
+      r .1 ∙ ap length (d .journal) ∙ length-appended (st .journal) (recordDue c (d .slot)),
     ))
     (call-cases g c (a .0))
 journal-grows st (handed b ∷ xs) g a = journal-grows (withBuffer st b) xs (turn-good g (handed b) (a .0)) (a .1)
@@ -154,8 +154,8 @@ keeps-step {st} g c a {e} k =
     let room = room-of (st .journal) (st .map) (g .blocks) (d .well) (d .room) in
     rw (d .journal)
     (record {
-      held = appended-keeps (st .journal) (recordOf c (d .slot)) room (d .fits) (d .shape) e (k .held);
-      is = appended-record-kept (st .journal) (recordOf c (d .slot)) room (d .fits) (d .shape) e (k .held) ∙ k .is;
+      held = appended-keeps (st .journal) (recordDue c (d .slot)) room (d .fits) (d .shape) e (k .held);
+      is = appended-record-kept (st .journal) (recordDue c (d .slot)) room (d .fits) (d .shape) e (k .held) ∙ k .is;
     }))
     (call-cases g c a)
 
@@ -165,7 +165,7 @@ keeps-run g [] a k = k
 keeps-run g (made c ∷ xs) a k = keeps-run (step-good g c (a .0)) xs (a .1) (keeps-step g c (a .0) k)
 keeps-run g (handed b ∷ xs) a k = keeps-run (turn-good g (handed b) (a .0)) xs (a .1) k
 
-number-of : (c : Call) (s : ℕ) → recordOf c s .number ≡ editNumber c
+number-of : (c : Call) (s : ℕ) → recordDue c s .number ≡ editNumber c
 number-of (add e o) s = refl
 number-of (remove e t) s = refl
 number-of (reinstate e t) s = refl
@@ -189,7 +189,7 @@ numbers-recorded st (handed b ∷ xs) = numbers-recorded (withBuffer st b) xs
 numbers-recorded st (made c ∷ xs) = go (isDone st c) (numbers-recorded (step st c) xs)
   where
     go : (b : Bool) → numbersOf (recordsIn (step st c) xs) ≡ numbersIn (step st c) xs
-        → numbersOf (cond b (recordOf c (slotSaid (outcome st c .said)) ∷ recordsIn (step st c) xs) (recordsIn (step st c) xs))
+        → numbersOf (cond b (recordDue c (slotSaid (outcome st c .said)) ∷ recordsIn (step st c) xs) (recordsIn (step st c) xs))
         ≡ map editNumber (cond b (c ∷ doneIn (step st c) xs) (doneIn (step st c) xs))
     go true e = rw (number-of c (slotSaid (outcome st c .said)), e)
     go false e = e
@@ -224,7 +224,7 @@ once-in st (made c ∷ xs) g a =
     let room = room-of (st .journal) (st .map) (g .blocks) (d .well) (d .room) in
     rw (did-done d)
     (once-more (rw e at (d .fresh))
-    (rw (d .journal) (rw e at (appended-holds (st .journal) (recordOf c (d .slot)) room (d .fits) (d .shape))))
+    (rw (d .journal) (rw e at (appended-holds (st .journal) (recordDue c (d .slot)) room (d .fits) (d .shape))))
     (λ x h. keeps-step g c (a .0) (record { held = h; is = refl }) .held) o))
     (call-cases g c (a .0))
 

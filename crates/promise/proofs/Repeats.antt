@@ -17,7 +17,7 @@ use Rattle.edit.specs.declared.EditAnswer.the-variants.{Before}
 use Rattle.accept.specs.Slots.{slotIn}
 use Rattle.edit.specs.Edits.{startOf}
 use Rattle.change.specs.Changes.{repeatChange, changed}
-use Rattle.promise.specs.Runs.{State, Call, add, remove, reinstate, search, Said, edited, outcome, step, Event, run, slotSaid, isDone, recordOf, Content, contentOf, Good, Sent, Fair}
+use Rattle.promise.specs.Runs.{State, Call, add, remove, reinstate, search, Said, edited, outcome, step, Event, run, slotSaid, isDone, recordDue, Content, contentOf, Good, Sent, Fair}
 use Rattle.promise.proofs.Keeping.{Did, Idle, call-cases, step-good}
 use Rattle.promise.proofs.Promises.{stays-good, Keeps, keeps-run}
 use Rattle.promise.proofs.ByEdit.{own-of}
@@ -33,10 +33,10 @@ pub did-of : {st : State} (g : Good st) (c : Call) → Sent c → isDone st c �
 did-of {st} g c a i = ⊎-elim (λ (x : Idle st c). absurd (never (sym i ∙ x .idle))) (λ (d : Did st c (g .blocks)). d) (call-cases g c a)
 
 -- its record is the one that holds its number
-pub did-keeps : {st : State} (g : Good st) (c : Call) (d : Did st c (g .blocks)) → Keeps (step st c .journal) (recordOf c (d .slot) .number) (recordOf c (d .slot))
+pub did-keeps : {st : State} (g : Good st) (c : Call) (d : Did st c (g .blocks)) → Keeps (step st c .journal) (recordDue c (d .slot) .number) (recordDue c (d .slot))
 did-keeps {st} g c d =
     let j = st .journal in
-    let r = recordOf c (d .slot) in
+    let r = recordDue c (d .slot) in
     let room = room-of j (st .map) (g .blocks) (d .well) (d .room) in
     rw (d .journal)
     (record {
@@ -84,11 +84,11 @@ module _ {st : State} (g : Good st) (xs : List Event) where
   slot-told c d = ap (λ (t : ℕ). edited (Before t (run (step st c) xs .used))) (sym (ap slotSaid (d .said)))
 
   change-told : (c : Call) → Sent c → Fair (step st c) xs → (d : Did st c (g .blocks)) → (e kind s : ℕ)
-      → ((w : State) → outcome w c .said ≡ edited (changed (w .map) (w .used) (w .journal) e kind s .answer)) → d .slot ≡ s → recordOf c s ≡ recordFor e kind s → Told c
+      → ((w : State) → outcome w c .said ≡ edited (changed (w .map) (w .used) (w .journal) e kind s .answer)) → d .slot ≡ s → recordDue c s ≡ recordFor e kind s → Told c
   change-told c a f d e kind s is q rec =
       let g₁ = step-good g c a in
       let k : Keeps (step st c .journal) e (recordFor e kind s) = rw (q, rec) at (did-keeps g c d) in
-      let ne : e ≡ 0 → ⊥ = rw (q, rec) at (shape-tells (recordOf c (d .slot)) (d .shape) .number) in
+      let ne : e ≡ 0 → ⊥ = rw (q, rec) at (shape-tells (recordDue c (d .slot)) (d .shape) .number) in
       is (run (step st c) xs) ∙ ap edited (repeated (stays-good (step st c) xs g₁ f) e kind s (keeps-run g₁ xs f k) ne) ∙ rw (← q) (slot-told c d)
 
   call-told : (c : Call) → Sent c → Fair (step st c) xs → Did st c (g .blocks) → Told c
@@ -98,7 +98,7 @@ module _ {st : State} (g : Good st) (xs : List Event) where
       let x = dormant-run g₁ (step st (add e o) .map) (d .slot) (dormant-start g₁ (d .slot) (own .1)) xs f in
       let same = kept-object o (x .1) (ap (λ (t : Content). t .object) (own .2)) in
       let k = keeps-run g₁ xs f (did-keeps g (add e o) d) in
-      ap edited (repeated-add (x .0) e (d .slot) o k (shape-tells (recordOf (add e o) (d .slot)) (d .shape) .number) same) ∙ slot-told (add e o) d
+      ap edited (repeated-add (x .0) e (d .slot) o k (shape-tells (recordDue (add e o) (d .slot)) (d .shape) .number) same) ∙ slot-told (add e o) d
   call-told (remove e s) a f d = change-told (remove e s) a f d e 2 s (λ w. refl) (d .effect .0) refl
   call-told (reinstate e s) a f d = change-told (reinstate e s) a f d e 3 s (λ w. refl) (d .effect .0) refl
   call-told (search w l) a f d = absurd (d .effect)

@@ -53,12 +53,12 @@ use Rattle.add.specs.Adds.{added, isFree, slotAdded}
 use Rattle.change.specs.Changes.{removed, reinstated}
 use Rattle.edit.specs.Edits.{numberOf, beforeOf, slotNo, lengthOf}
 
-abbrev pub blocksOf : Verdict → ℕ
-blocksOf (verdicts.Accepted n) = n
-blocksOf (verdicts.Refused n p) = 0
+abbrev pub acceptedBlocks : Verdict → ℕ
+acceptedBlocks (verdicts.Accepted n) = n
+acceptedBlocks (verdicts.Refused n p) = 0
 
 abbrev pub blocksIn : List ℕ → ℕ → ℕ
-blocksIn m used = blocksOf (verdict m used)
+blocksIn m used = acceptedBlocks (verdict m used)
 
 pub record State : Type 0 where
   pub map : List ℕ
@@ -75,15 +75,15 @@ pub data Said : Type 0 where
   edited : EditAnswer → Said
   searched : SearchAnswer → List ℕ → Said
 
-pub record Outcome : Type 0 where
+pub record CallOutcome : Type 0 where
   pub said : Said
   pub map : List ℕ
   pub journal : List ℕ
 
-abbrev pub ofEdit : edits.Outcome → Outcome
+abbrev pub ofEdit : edits.Outcome → CallOutcome
 ofEdit o = record { said = edited (o .answer); map = o .map; journal = o .journal }
 
-abbrev pub outcome : State → Call → Outcome
+abbrev pub outcome : State → Call → CallOutcome
 outcome st (add e o) = ofEdit (added (st .map) (st .used) (st .journal) e o)
 outcome st (remove e s) = ofEdit (removed (st .map) (st .used) (st .journal) e s)
 outcome st (reinstate e s) = ofEdit (reinstated (st .map) (st .used) (st .journal) e s)
@@ -109,7 +109,7 @@ lengthSaid (searched a l) = 0
 abbrev pub lengthAfter : Said → ℕ → ℕ
 lengthAfter s used = cond (saysDone s) (lengthSaid s) used
 
-abbrev pub next : ℕ → Outcome → State
+abbrev pub next : ℕ → CallOutcome → State
 next used out = record { map = out .map; used = lengthAfter (out .said) used; journal = out .journal }
 
 unfoldable pub step : State → Call → State
@@ -138,15 +138,15 @@ doneIn st [] = []
 doneIn st (made c ∷ xs) = cond (isDone st c) (c ∷ doneIn (step st c) xs) (doneIn (step st c) xs)
 doneIn st (handed b ∷ xs) = doneIn (withBuffer st b) xs
 
-abbrev pub recordOf : Call → ℕ → JournalRecord
-recordOf (add e o) s = recordFor e 1 s
-recordOf (remove e t) s = recordFor e 2 s
-recordOf (reinstate e t) s = recordFor e 3 s
-recordOf (search w l) s = recordFor 0 0 0
+abbrev pub recordDue : Call → ℕ → JournalRecord
+recordDue (add e o) s = recordFor e 1 s
+recordDue (remove e t) s = recordFor e 2 s
+recordDue (reinstate e t) s = recordFor e 3 s
+recordDue (search w l) s = recordFor 0 0 0
 
 unfoldable pub recordsIn : State → List Event → List JournalRecord
 recordsIn st [] = []
-recordsIn st (made c ∷ xs) = cond (isDone st c) (recordOf c (slotSaid (outcome st c .said)) ∷ recordsIn (step st c) xs) (recordsIn (step st c) xs)
+recordsIn st (made c ∷ xs) = cond (isDone st c) (recordDue c (slotSaid (outcome st c .said)) ∷ recordsIn (step st c) xs) (recordsIn (step st c) xs)
 recordsIn st (handed b ∷ xs) = recordsIn (withBuffer st b) xs
 
 abbrev pub mapOf : State → List ℕ
