@@ -8,7 +8,7 @@ use super::lines::say_bytes;
 use super::lines::say_list;
 use windows::Window;
 
-pub fn call_check(map: &[u8], n: usize, used: usize) {
+pub(super) fn call_check(map: &[u8], n: usize, used: usize) {
     if map.len() < n {
         return;
     }
@@ -18,7 +18,7 @@ pub fn call_check(map: &[u8], n: usize, used: usize) {
     end_line();
 }
 
-pub fn call_search(map: &[u8], list: &mut [u32], d: Desk) {
+pub(super) fn call_search(map: &[u8], list: &mut [u32], d: Desk) {
     let n = d.map;
     let entries = d.list;
     if map.len() < n {
@@ -108,7 +108,13 @@ fn call_reinstate(map: &mut [u8], journal: &mut [u8], d: Desk, number: u32, at: 
 }
 
 // Orders 17 to 19.
-pub fn call_edit(map: &mut [u8], journal: &mut [u8], object: &[u8], d: Desk, o: Order) -> Desk {
+pub(super) fn call_edit(
+    map: &mut [u8],
+    journal: &mut [u8],
+    object: &[u8],
+    d: Desk,
+    o: Order,
+) -> Desk {
     let what = o.what;
     if what == 17 {
         return call_add(map, journal, object, d, o.a);

@@ -132,7 +132,7 @@ fn offer(object: &mut [u8], d: Desk, pairs: u32, v: u32) -> Desk {
 }
 
 // The map's length is set.
-pub fn set_used(d: Desk, n: usize) -> Desk {
+pub(super) fn set_used(d: Desk, n: usize) -> Desk {
     let mut after = d;
     after.used = n;
     after
@@ -146,7 +146,7 @@ fn set_offered(d: Desk, n: usize) -> Desk {
 }
 
 // Orders 1 to 6.
-pub fn set_map(map: &mut [u8], d: Desk, o: Order) -> Desk {
+pub(super) fn set_map(map: &mut [u8], d: Desk, o: Order) -> Desk {
     let what = o.what;
     let at = o.a as usize;
     if what == 1 {
@@ -172,7 +172,7 @@ pub fn set_map(map: &mut [u8], d: Desk, o: Order) -> Desk {
 }
 
 // Orders 7 to 11.
-pub fn set_edit(journal: &mut [u8], object: &mut [u8], d: Desk, o: Order) -> Desk {
+pub(super) fn set_edit(journal: &mut [u8], object: &mut [u8], d: Desk, o: Order) -> Desk {
     let what = o.what;
     let at = o.a as usize;
     if what == 7 {
@@ -193,7 +193,7 @@ pub fn set_edit(journal: &mut [u8], object: &mut [u8], d: Desk, o: Order) -> Des
 }
 
 // Orders 12 to 14.
-pub fn set_search(list: &mut [u32], d: Desk, o: Order) -> Desk {
+pub(super) fn set_search(list: &mut [u32], d: Desk, o: Order) -> Desk {
     let what = o.what;
     if what == 12 {
         return lend_list(list, d, o.a as usize, o.b);

@@ -5,12 +5,12 @@ use numbers::u32_at;
 ghost use Prim.Native.Nat.{_<_};
 
 // A word and a number.
-pub fn say(word: &[u8], n: u32) {
+pub(super) fn say(word: &[u8], n: u32) {
     io::write_all(STDOUT_FILENO, word);
     io::print_decimal(STDOUT_FILENO, n as u64);
 }
 
-pub fn end_line() {
+pub(super) fn end_line() {
     io::write_all(STDOUT_FILENO, b"\n");
 }
 
@@ -49,7 +49,7 @@ fn sum_list(s: &[u32]) -> u64 {
 }
 
 // The sum over the first bytes of a buffer.
-pub fn say_bytes(word: &[u8], s: &[u8], n: usize) {
+pub(super) fn say_bytes(word: &[u8], s: &[u8], n: usize) {
     if s.len() < n {
         return;
     }
@@ -58,7 +58,7 @@ pub fn say_bytes(word: &[u8], s: &[u8], n: usize) {
 }
 
 // The sum over the first entries of a list.
-pub fn say_list(word: &[u8], s: &[u32], n: usize) {
+pub(super) fn say_list(word: &[u8], s: &[u32], n: usize) {
     if s.len() < n {
         return;
     }
@@ -90,7 +90,7 @@ fn show_list(list: &[u32], at: u32) {
 }
 
 // Orders 20 to 22.
-pub fn show(map: &[u8], list: &[u32], o: Order) {
+pub(super) fn show(map: &[u8], list: &[u32], o: Order) {
     let what = o.what;
     if what == 20 {
         say(b"T", o.a);
