@@ -17,6 +17,10 @@ use borrow.Author.Needs.{needs}
 use Rattle.add.proofs.write_added.Statement.{statement}
 use Rattle.add.proofs.write_added.Tie as tie
 
+-- where the function starts, from the slot that is made, before the two ways
+abbrev start : tie.After-slot-for → tie.Start
+start c = c .before .before .before .before .before .before
+
 holds : (s : tie.Start) → Holds (now (s .args .map)) (s .args .used) (s .args .n)
 holds s = accepted-tells (now (s .args .map)) (s .args .used) (s .args .n) (s .pre .0)
 
@@ -30,26 +34,26 @@ slot-for-requires : tie.Need-slot-for-requires
 slot-for-requires c κs = rw (c .u16-at .ensures) (c .before .before .before .before .before .pre .4)
 
 mul-if1 : tie.Need-mul-if1
-mul-if1 c = omega (arith, few-blocks (holds (c .before .before .before .before .before .before)))
+mul-if1 c = omega (arith, few-blocks (holds (start c)))
 
 -- the slot that is written
-slot : (c : tie.After-slot-for) → let a = c .before .before .before .before .before .before .args in c .slot-for .result ≡ slotAdded (now (a .map)) (a .used) (now (a .o))
+slot : (c : tie.After-slot-for) → let a = start c .args in c .slot-for .result ≡ slotAdded (now (a .map)) (a .used) (now (a .o))
 slot c = rw (← c .before .u16-at .ensures) (c .slot-for .ensures)
 
 -- ---- a slot is free
 
-free : (c : tie.Then1) → let a = c .before .before .before .before .before .before .before .args in freeSlot (now (a .map)) (a .n) < 256 * a .n
-free c = omega (arith, c .before .before .before .before .before .before .before .pre .3)
+free : (c : tie.Then1) → let a = start (c .before) .args in freeSlot (now (a .map)) (a .n) < 256 * a .n
+free c = omega (arith, start (c .before) .pre .3)
 
-found : (c : tie.After-place-of) → let a = c .before .before .before .before .before .before .before .before .before .args in c .place-of .result ≡ slotAt (now (a .map)) (freeSlot (now (a .map)) (a .n))
+found : (c : tie.After-place-of) → let a = start (c .before .before .before) .args in c .place-of .result ≡ slotAt (now (a .map)) (freeSlot (now (a .map)) (a .n))
 found c =
-    let s = c .before .before .before .before .before .before .before .before .before in
+    let s = start (c .before .before .before) in
     c .place-of .ensures (now (s .args .map)) (s .args .n) (s .pre .1) (c .before .before .if1 .taken) ∙ ap (slotAt (now (s .args .map))) (s .pre .3)
 
 write-in-slot-requires : tie.Need-write-in-slot-requires
 write-in-slot-requires c κs =
     let k = c .before .before in
-    let s = k .before .before .before .before .before .before .before in
+    let s = start (k .before) in
     let a = s .args in
     let h = holds s in
     (omega (arith, length-free (now (a .map)) (a .used) (a .n) (now (a .o)) (free k), s .pre .6), omega (arith, found c, slot-lies h (freeSlot (now (a .map)) (a .n)) (free k) .high, h .room))
@@ -59,23 +63,23 @@ unfolding inFree
 returns c =
     let w = c .before .before in
     let k = w .before .before .before in
-    let a = k .before .before .before .before .before .before .before .args in
+    let a = start (k .before) .args in
     rw (added-free (now (a .map)) (a .used) (a .n) (now (a .o)) (free k), ← found (w .before), ← slot (k .before)) (w .write-in-slot .ensures)
 
 -- ---- none is free
 
-full : (c : tie.Else1) → let a = c .before .before .before .before .before .before .before .args in 256 * a .n ≤ freeSlot (now (a .map)) (a .n)
-full c = omega (arith, c .before .before .before .before .before .before .before .pre .3)
+full : (c : tie.Else1) → let a = start (c .before) .args in 256 * a .n ≤ freeSlot (now (a .map)) (a .n)
+full c = omega (arith, start (c .before) .pre .3)
 
-link : (c : tie.After-last-link) → let a = c .before .before .before .before .before .before .before .before .before .args in c .last-link .result ≡ place indexHead (now (a .map)) (a .n)
+link : (c : tie.After-last-link) → let a = start (c .before .before .before) .args in c .last-link .result ≡ place indexHead (now (a .map)) (a .n)
 link c =
-    let s = c .before .before .before .before .before .before .before .before .before in
+    let s = start (c .before .before .before) in
     c .last-link .ensures (now (s .args .map)) (s .pre .1)
 
 write-in-block-requires : tie.Need-write-in-block-requires
 write-in-block-requires c κs =
     let k = c .before .before in
-    let s = k .before .before .before .before .before .before .before in
+    let s = start (k .before) in
     let a = s .args in
     let h = holds s in
     let e = length-block (now (a .map)) (a .used) (a .n) (now (a .o)) (full k) in
@@ -86,7 +90,7 @@ unfolding inBlock
 returns-2 c =
     let w = c .before .before in
     let k = w .before .before .before in
-    let a = k .before .before .before .before .before .before .before .args in
+    let a = start (k .before) .args in
     rw (added-block (now (a .map)) (a .used) (a .n) (now (a .o)) (full k), ← link (w .before), ← slot (k .before)) (w .write-in-block .ensures)
 
 pub write-added-spec : {M : Type 1} → statement M
