@@ -11,17 +11,21 @@ use borrow.Author.Needs.{needs}
 use Rattle.add.proofs.add_with.Statement.{statement}
 use Rattle.add.proofs.add_with.Tie as tie
 
--- where the function starts, from the start of the edit
+-- where the function starts, from the call that examines the map
+abbrev called : tie.After-examine-arg2 → tie.Start
+called c = c .before .before .before .before .before .before .before
+
+-- the same, from the start of the edit
 abbrev start : tie.After-begin → tie.Start
-start c = c .before .before .before .before .before .before .before .before .before .before .before .before .before .before
+start c = called (c .before .before .before .before .before .before .before)
 
 examine-requires : tie.Need-examine-requires
-examine-requires c κs = let s = c .before .before .before .before .before .before .before in (λ l. s .pre .0 l .pages, s .pre .1)
+examine-requires c κs = let s = called c in (λ l. s .pre .0 l .pages, s .pre .1)
 
 begin-requires : tie.Need-begin-requires
 begin-requires c κs =
     let x = c .before .before .before .before .before in
-    let s = x .before .before .before .before .before .before .before .before in
+    let s = called (x .before) in
     (x .examine .ensures .0, λ l. s .pre .0 l .blocks)
 
 refused : (c : tie.After-start) → let a = start (c .before .before .before .before) .args in startOf (now (a .map)) (a .used) (now (a .journal)) (a .edit) ≡ starts.Refused (c .start .given .0 .0) (c .start .given .0 .1 .0)
