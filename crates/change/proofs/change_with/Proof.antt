@@ -19,17 +19,33 @@ use borrow.Author.Needs.{needs}
 use Rattle.change.proofs.change_with.Statement.{statement}
 use Rattle.change.proofs.change_with.Tie as tie
 
--- where the function starts, from the start of the edit
+-- where the function starts, from the call that examines the map
+abbrev called : tie.After-examine-arg2 → tie.Start
+called c = c .before .before .before .before .before .before
+
+-- where the map is examined, from the start of the edit
+abbrev examined : tie.After-begin → tie.After-examine
+examined c = c .before .before .before .before .before .before
+
+-- and where the function starts, from there
 abbrev start : tie.After-begin → tie.Start
-start c = c .before .before .before .before .before .before .before .before .before .before .before .before .before
+start c = called (examined c .before)
+
+-- where the number is new, from where the Sym is known
+abbrev new-number : tie.After-sym → tie.After-start3
+new-number c = c .before .before .before .before .before .before .before
+
+-- where the Sym is known, from the change of the slot
+abbrev new-sym : tie.After-change-slot → tie.After-sym
+new-sym c = c .before .before .before .before .before .before
 
 examine-requires : tie.Need-examine-requires
-examine-requires c κs = let s = c .before .before .before .before .before .before in (λ l. s .pre .0 l .pages, s .pre .1)
+examine-requires c κs = let s = called c in (λ l. s .pre .0 l .pages, s .pre .1)
 
 begin-requires : tie.Need-begin-requires
 begin-requires c κs =
     let x = c .before .before .before .before .before in
-    let s = x .before .before .before .before .before .before .before in
+    let s = called (x .before) in
     (x .examine .ensures .0, λ l. s .pre .0 l .blocks)
 
 -- ---- a number that is held
@@ -65,10 +81,10 @@ roomy : (c : tie.After-start3) → let a = start (c .before .before .before .bef
 roomy c = start (c .before .before .before .before) .pre .0 (holds c .limit)
 
 -- and the blocks stand in them
-known : (c : tie.After-start3) → let b = c .before .before .before .before in let a = start b .args in Known (now (a .map)) (a .used) (c .start3 .given .0 .0) (b .before .before .before .before .before .before .examine .last .1 .1 .0) (b .begin .last .1 .1 .1 .1 .1 .0)
+known : (c : tie.After-start3) → let b = c .before .before .before .before in let a = start b .args in Known (now (a .map)) (a .used) (c .start3 .given .0 .0) (examined b .examine .last .1 .1 .0) (b .begin .last .1 .1 .1 .1 .1 .0)
 known c =
     let b = c .before .before .before .before in
-    let x = b .before .before .before .before .before .before in
+    let x = examined b in
     let a = start b .args in
     let n = c .start3 .given .0 .0 in
     known-by (now (a .map)) (a .used) n (x .examine .last .1 .1 .0) (b .begin .last .1 .1 .1 .1 .1 .0) (x .examine .ensures .0) (x .examine .ensures .1) (b .begin .ensures .1 n (accepted c)) (accepted c)
@@ -77,23 +93,23 @@ sym-for-requires : tie.Need-sym-for-requires
 sym-for-requires c κs =
     let w = c .before .before .before .before in
     let b = w .before .before .before .before in
-    let x = b .before .before .before .before .before .before in
+    let x = examined b in
     (accepted w, known w, omega (arith, roomy w .pages, x .examine .kept .1 .1 .0), omega (arith, blocks-fit (holds w) (now (start b .args .order)) (roomy w .blocks), b .begin .kept .1 .1 .1 .1 .1 .0))
 
 -- the Sym that is written, and that its slot exists
-write : (c : tie.After-sym) → let w = c .before .before .before .before .before .before .before in let a = start (w .before .before .before .before) .args in newSymFor (a .kind) (now (a .map)) (a .used) (w .start3 .given .0 .0) (a .at) ≡ Write (c .sym .given .0 .0)
+write : (c : tie.After-sym) → let w = new-number c in let a = start (w .before .before .before .before) .args in newSymFor (a .kind) (now (a .map)) (a .used) (w .start3 .given .0 .0) (a .at) ≡ Write (c .sym .given .0 .0)
 write c = sym (c .before .before .sym-for .ensures) ∙ c .sym .given .1
 
-exists : (c : tie.After-sym) → let w = c .before .before .before .before .before .before .before in let a = start (w .before .before .before .before) .args in a .at < 256 * w .start3 .given .0 .0
+exists : (c : tie.After-sym) → let w = new-number c in let a = start (w .before .before .before .before) .args in a .at < 256 * w .start3 .given .0 .0
 exists c =
-    let w = c .before .before .before .before .before .before .before in
+    let w = new-number c in
     let a = start (w .before .before .before .before) .args in
     allowed-exists (a .kind) (now (a .map)) (a .used) (w .start3 .given .0 .0) (a .at) (sym-write (a .kind) (now (a .map)) (a .used) (w .start3 .given .0 .0) (a .at) (write c) .0)
 
 place-of-requires : tie.Need-place-of-requires
 place-of-requires c κs =
     let y = c .before .before in
-    let w = y .before .before .before .before .before .before .before in
+    let w = new-number y in
     let b = w .before .before .before .before in
     omega (arith, exists y, blocks-fit (holds w) (now (start b .args .order)) (roomy w .blocks), b .begin .kept .1 .1 .1 .1 .1 .0)
 
@@ -101,7 +117,7 @@ change-slot-requires : tie.Need-change-slot-requires
 change-slot-requires c κs =
     let p = c .before .before in
     let y = p .before .before .before in
-    let w = y .before .before .before .before .before .before .before in
+    let w = new-number y in
     let a = start (w .before .before .before .before) .args in
     let n = w .start3 .given .0 .0 in
     let h = holds w in
@@ -141,8 +157,8 @@ returns-3 c =
 returns-4 : tie.Need-returns-4
 returns-4 c =
     let k = c .before .before .before .before in
-    let y = k .before .before .before .before .before .before in
-    let w = y .before .before .before .before .before .before .before in
+    let y = new-sym k in
+    let w = new-number y in
     let a = start (w .before .before .before .before) .args in
     let e = parts (changed-write (now (a .map)) (a .used) (now (a .journal)) (a .edit) (a .kind) (a .at) (new w) (write y)) in
     (k .change-slot .ensures .0 ∙ e .0, k .change-slot .ensures .1 ∙ e .1, k .change-slot .ensures .2 ∙ e .2)
@@ -180,9 +196,6 @@ change-with-spec =
     returns-3
     (λ c. search needs)
     (λ c. search needs)
-    (λ c.
-    let w = c .before .before .before .before .before .before .before .before .before .before .before .before .before .before .before .before .before in
-    let x = w .before .before .before .before .before .before .before .before .before .before in
-    x .examine .kept .1 .1 .0)
+    (λ c. let w = new-number (new-sym (c .before .before .before .before)) in examined (w .before .before .before .before) .examine .kept .1 .1 .0)
     (λ c. search needs)
     returns-4)
