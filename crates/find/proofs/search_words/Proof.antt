@@ -17,51 +17,59 @@ use Rattle.find.proofs.Searches.{answer-refused, answer-short, answer-f
 use Rattle.find.proofs.search_words.Statement.{statement}
 use Rattle.find.proofs.search_words.Tie as tie
 
+-- where the function starts, from the look at the slots
+abbrev start : tie.After-look-in-slots → tie.Start
+start c = c .before .before .before .before .before .before
+
+-- where the slots are looked at, from where none of them is at fault
+abbrev looked : tie.Else1 → tie.After-look-in-slots
+looked c = c .before .before .before .before
+
 returns : tie.Need-returns
 returns c =
     let b = c .before .before .before .before .before in
-    let s = b .before .before .before .before .before .before in
+    let s = start b in
     let a = s .args in
     answers (now (a .m)) (a .used) (a .w) (now (a .list))
     (answer-refused (now (a .m)) (a .used) (a .w) (length (now (a .list))) (open-judged (now (a .m)) (a .used) (a .n) (s .pre .1) (b .look-in-slots .ensures .1 (c .before .if1 .taken))))
 
 -- no slot is at fault: how many are found, and the words have them
-good : (c : tie.Else1) → let b = c .before .before .before .before in let a = b .before .before .before .before .before .before .args in (slotsJudged (now (a .m)) (a .used) (a .n) ≡ Good) × (b .look-in-slots .result .count ≡ length (found (now (a .m)) (a .n) (a .w))) × Marked (now (a .m)) (a .w) (b .look-in-slots .last .1 .1 .1 .1 .1 .0) (blockWords * a .n)
-good c = c .before .before .before .before .look-in-slots .ensures .0 (c .if1 .left)
+good : (c : tie.Else1) → let b = looked c in let a = start b .args in (slotsJudged (now (a .m)) (a .used) (a .n) ≡ Good) × (b .look-in-slots .result .count ≡ length (found (now (a .m)) (a .n) (a .w))) × Marked (now (a .m)) (a .w) (b .look-in-slots .last .1 .1 .1 .1 .1 .0) (blockWords * a .n)
+good c = looked c .look-in-slots .ensures .0 (c .if1 .left)
 
 -- so they are few
-low : (c : tie.Else1) → let b = c .before .before .before .before in (b .look-in-slots .result .count ≤ 698368) × (b .before .before .before .before .before .before .args .n ≤ mostBlocks)
+low : (c : tie.Else1) → let b = looked c in (b .look-in-slots .result .count ≤ 698368) × (start b .args .n ≤ mostBlocks)
 low c =
-    let s = c .before .before .before .before .before .before .before .before .before .before in
+    let s = start (looked c) in
     let n = open-few (s .pre .0) in
     (omega (arith, good c .1, slots-low (liveIn (now (s .args .m)) (s .args .w)) (s .args .n), n), n)
 
 returns-2 : tie.Need-returns-2
 returns-2 c =
     let k = c .before in
-    let s = k .before .before .before .before .before .before .before .before .before .before in
+    let s = start (looked k) in
     let a = s .args in
     answers (now (a .m)) (a .used) (a .w) (now (a .list))
     (answer-short (now (a .m)) (a .used) (a .w) (length (now (a .list))) (open-judged (now (a .m)) (a .used) (a .n) (s .pre .1) (good k .0)) (s .pre .2) (good k .1) (c .if2 .taken))
 
 -- the bits that are 1 are the slots found
-listed : (c : tie.Else1) → let b = c .before .before .before .before in let a = b .before .before .before .before .before .before .args in onesIn wordBits (b .look-in-slots .last .1 .1 .1 .1 .1 .0) (blockWords * a .n) ≡ found (now (a .m)) (a .n) (a .w)
+listed : (c : tie.Else1) → let b = looked c in let a = start b .args in onesIn wordBits (b .look-in-slots .last .1 .1 .1 .1 .1 .0) (blockWords * a .n) ≡ found (now (a .m)) (a .n) (a .w)
 listed c =
-    let b = c .before .before .before .before in
-    let a = b .before .before .before .before .before .before .args in
+    let b = looked c in
+    let a = start b .args in
     marked-found (now (a .m)) (a .w) (b .look-in-slots .last .1 .1 .1 .1 .1 .0) (a .n) (good c .2)
 
 list-words-requires : tie.Need-list-words-requires
 list-words-requires c κs =
     let k = c .before .before .before in
-    let b = k .before .before .before .before in
-    let s = b .before .before .before .before .before .before in
+    let b = looked k in
+    let s = start b in
     (omega (arith, s .pre .3, b .look-in-slots .kept .1 .1 .1 .1 .1 .0), omega (arith, low k .1), omega (arith, ap length (listed k), good k .1, c .before .before .if2 .left))
 
 returns-3 : tie.Need-returns-3
 returns-3 c =
     let k = c .before .before .before .before .before .before in
-    let s = k .before .before .before .before .before .before .before .before .before .before in
+    let s = start (looked k) in
     let a = s .args in
     let r = answers (now (a .m)) (a .used) (a .w) (now (a .list))
     (answer-found (now (a .m)) (a .used) (a .w) (length (now (a .list))) (open-judged (now (a .m)) (a .used) (a .n) (s .pre .1) (good k .0)) (s .pre .2) (good k .1) (c .before .before .before .before .before .if2 .left)) in
