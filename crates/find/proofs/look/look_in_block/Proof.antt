@@ -23,20 +23,24 @@ Inv-loop m used version index block k w words₀ before count₀ q₀ words coun
 abbrev μ-loop : tie.MeasureT-loop
 μ-loop m used version index block k w words₀ before count₀ q₀ words count q = blockWords - q
 
+-- where the function starts, from a turn of the loop
+abbrev start : tie.In-loop Inv-loop μ-loop → tie.Start Inv-loop μ-loop
+start c = c .before .before .before .before .before
+
 -- a word's slots lie in the block
-inside : (c : tie.In-loop Inv-loop μ-loop) → let a = c .before .before .before .before .before .args in a .block + 4 + wordBits * slotSize * c .before .loop .q + wordBits * slotSize ≤ a .used
-inside c = omega (arith, c .before .before .before .before .before .pre .0, c .loop-test .taken)
+inside : (c : tie.In-loop Inv-loop μ-loop) → let a = start c .args in a .block + 4 + wordBits * slotSize * c .before .loop .q + wordBits * slotSize ≤ a .used
+inside c = omega (arith, start c .pre .0, c .loop-test .taken)
 
 look-in-word-requires : tie.Need-look-in-word-requires Inv-loop μ-loop
 look-in-word-requires c κs =
-    let pre = c .before .before .before .before .before .pre in
+    let pre = start c .pre in
     (inside c, pre .1)
 
 -- the first at fault in the word
-bad : (c : tie.After-look-in-word Inv-loop μ-loop) → let l = c .before .before in let a = l .before .before .before .before .args in First (λ j. badSlot (endsMeet indexBlockSize (now (a .index))) (now (a .m)) (a .used) (a .version) (slotFrom (a .block + 4 + wordBits * slotSize * l .loop .q) j)) wordBits (c .look-in-word .result .bad)
+bad : (c : tie.After-look-in-word Inv-loop μ-loop) → let l = c .before .before in let a = start (c .before) .args in First (λ j. badSlot (endsMeet indexBlockSize (now (a .index))) (now (a .m)) (a .used) (a .version) (slotFrom (a .block + 4 + wordBits * slotSize * l .loop .q) j)) wordBits (c .look-in-word .result .bad)
 bad c =
     let l = c .before .before in
-    let a = l .before .before .before .before .args in
+    let a = start (c .before) .args in
     rw (c .look-in-word .ensures .0) (first-law (λ j. badSlot (endsMeet indexBlockSize (now (a .index))) (now (a .m)) (a .used) (a .version) (slotFrom (a .block + 4 + wordBits * slotSize * l .loop .q) j)) wordBits)
 
 returns : tie.Need-returns Inv-loop μ-loop
@@ -49,14 +53,14 @@ returns c =
 slice-write-words : tie.Need-slice-write-words Inv-loop μ-loop
 slice-write-words c =
     let t = c .before .before .before in
-    omega (arith, t .before .before .before .before .before .pre .4, t .before .loop .inv .kept, t .loop-test .taken)
+    omega (arith, start t .pre .4, t .before .loop .inv .kept, t .loop-test .taken)
 
 -- none of the word's slots is at fault: they have their bits
-bits : (c : tie.After-struct-known3 Inv-loop μ-loop) → let x = c .before .before .before in let l = x .before .before in let a = l .before .before .before .before .args in x .look-in-word .result .bits ≡ bitsFrom (liveFrom (now (a .m)) (a .w) (a .block + 4 + wordBits * slotSize * l .loop .q)) 0 wordBits
+bits : (c : tie.After-struct-known3 Inv-loop μ-loop) → let x = c .before .before .before in let l = x .before .before in let a = start (x .before) .args in x .look-in-word .result .bits ≡ bitsFrom (liveFrom (now (a .m)) (a .w) (a .block + 4 + wordBits * slotSize * l .loop .q)) 0 wordBits
 bits c = let x = c .before .before .before in x .look-in-word .ensures .1 (omega (arith, bad x .within, c .before .if1 .left))
 
 -- and so many are found
-hits : (c : tie.After-struct-known3 Inv-loop μ-loop) → let x = c .before .before .before in let l = x .before .before in let a = l .before .before .before .before .args in count (x .look-in-word .result .bits) ≡ length (sel (liveFrom (now (a .m)) (a .w) (a .block + 4 + wordBits * slotSize * l .loop .q)) wordBits)
+hits : (c : tie.After-struct-known3 Inv-loop μ-loop) → let x = c .before .before .before in let l = x .before .before in let a = start (x .before) .args in count (x .look-in-word .result .bits) ≡ length (sel (liveFrom (now (a .m)) (a .w) (a .block + 4 + wordBits * slotSize * l .loop .q)) wordBits)
 hits c = word-count _ (bits c)
 
 few : (c : tie.After-struct-known3 Inv-loop μ-loop) → count (c .before .before .before .look-in-word .result .bits) ≤ wordBits
@@ -66,7 +70,7 @@ loop-again : tie.Need-loop-again Inv-loop μ-loop
 loop-again c =
     let x = c .before .before .before in
     let t = x .before in
-    let pre = t .before .before .before .before .before .pre in
+    let pre = start t .pre in
     rows-on (t .before .loop .inv) (t .loop-test .taken) refl (pre .2) (bad x) (c .before .if1 .left) (pre .4) (bits c) (ap (λ (i : ℕ). t .before .loop .count + i) (hits c))
 
 returns-2 : tie.Need-returns-2 Inv-loop μ-loop
@@ -79,21 +83,21 @@ look-in-block-spec =
     Inv-loop
     μ-loop
     (λ c. rows-start (c .before .before .before .pre .5) (c .before .before .before .pre .6))
-    (λ c. omega (arith, inside c, c .before .before .before .before .before .pre .1 .limit))
+    (λ c. omega (arith, inside c, start c .pre .1 .limit))
     (λ c. omega arith)
     (λ c. omega (arith, c .loop-test .taken))
-    (λ c. omega (arith, inside c, c .before .before .before .before .before .pre .1 .limit))
+    (λ c. omega (arith, inside c, start c .pre .1 .limit))
     look-in-word-requires
     (λ c. omega (arith, c .before .before .before .loop-test .taken))
     (λ c. omega (arith, c .before .before .before .before .loop-test .taken, c .before .if1 .taken))
     (λ c. c .before .before .before .before .before .loop .inv .kept)
     returns
-    (λ c. omega (arith, c .before .before .before .before .before .before .before .before .pre .3))
-    (λ c. omega (arith, c .before .before .before .before .before .before .before .before .pre .3, c .before .before .before .loop-test .taken))
-    (λ c. omega (arith, c .before .before .before .before .before .before .before .before .pre .3, c .before .before .before .loop-test .taken))
+    (λ c. omega (arith, start (c .before .before .before) .pre .3))
+    (λ c. omega (arith, start (c .before .before .before) .pre .3, c .before .before .before .loop-test .taken))
+    (λ c. omega (arith, start (c .before .before .before) .pre .3, c .before .before .before .loop-test .taken))
     slice-write-words
     (λ c. omega (arith, few c))
-    (λ c. let t = c .before .before .before .before in omega (arith, few c, rows-few (t .before .loop .inv), t .loop-test .taken, t .before .before .before .before .before .pre .3))
+    (λ c. let t = c .before .before .before .before in omega (arith, few c, rows-few (t .before .loop .inv), t .loop-test .taken, start t .pre .3))
     (λ c. omega (arith, c .before .before .before .before .loop-test .taken))
     (λ c. omega (arith, c .before .before .before .before .loop-test .taken))
     loop-again
