@@ -45,6 +45,10 @@ Inv-loop m used index n version at₀ free₀ k₀ at free k =
 abbrev μ-loop : tie.MeasureT-loop
 μ-loop m used index n version at₀ free₀ k₀ at free k = n - k
 
+-- where the function starts, from a turn of the loop
+abbrev start : tie.In-loop Inv-loop μ-loop → tie.Start Inv-loop μ-loop
+start c = c .before .before .before .before .before .before
+
 loop-holds : tie.Need-loop-holds Inv-loop μ-loop
 unfolding place
 loop-holds c =
@@ -55,12 +59,12 @@ loop-holds c =
     )
 
 -- the block of this turn lies inside the map
-inside : (c : tie.In-loop Inv-loop μ-loop) → c .before .loop .at + 6148 ≤ c .before .before .before .before .before .before .args .used
+inside : (c : tie.In-loop Inv-loop μ-loop) → c .before .loop .at + 6148 ≤ start c .args .used
 inside c = along-inside (c .before .loop .inv .0) (c .loop-test .taken) (c .before .loop .inv .1)
 
 judge-block-slots-requires : tie.Need-judge-block-slots-requires Inv-loop μ-loop
 judge-block-slots-requires c κs =
-    let pre = c .before .before .before .before .before .before .pre in
+    let pre = start c .pre in
     (inside c, pre .indexed)
 
 -- the first slot of the block at fault, by the chain in the place of the table
@@ -71,8 +75,8 @@ bad c =
     rw (c .judge-block-slots .ensures .0, same-touch (v .before .before .before .pre .table), v .u16-at .ensures) (first-law (λ j. at-fault (now (a .m)) (a .used) (a .n) (cellIn (c .before .before .loop .at) slotSize j)) 256)
 
 -- the first free slot of the block, where none is at fault
-free : (c : tie.After-judge-block-slots Inv-loop μ-loop) → 256 ≤ c .judge-block-slots .result .bad → let l = c .before .before in First (freeIn (now (l .before .before .before .before .before .args .m)) (l .loop .at)) 256 (c .judge-block-slots .result .free)
-free c l = rw (c .judge-block-slots .ensures .1 (omega (arith, bad c .within))) (first-law (freeIn (now (c .before .before .before .before .before .before .before .args .m)) (c .before .before .loop .at)) 256)
+free : (c : tie.After-judge-block-slots Inv-loop μ-loop) → 256 ≤ c .judge-block-slots .result .bad → let l = c .before .before in First (freeIn (now (start (c .before) .args .m)) (l .loop .at)) 256 (c .judge-block-slots .result .free)
+free c l = rw (c .judge-block-slots .ensures .1 (omega (arith, bad c .within))) (first-law (freeIn (now (start (c .before) .args .m)) (c .before .before .loop .at)) 256)
 
 -- where a slot of the block stands
 stands : (c : tie.After-slot Inv-loop μ-loop) → c .slot .result ≡ cellIn (c .before .before .before .before .before .before .loop .at) slotSize (c .before .before .before .before .judge-block-slots .result .bad)
@@ -82,14 +86,14 @@ stands c = omega (arith, c .slot .ensures, c .before .new .ensures)
 fits-32 : tie.Need-cast-t14 Inv-loop μ-loop
 fits-32 c =
     let t = c .before .before .before .before .before in
-    omega (arith, c .slot .ensures, c .before .new .ensures, c .before .before .if1 .taken, inside t, t .before .before .before .before .before .before .pre .indexed .limit)
+    omega (arith, c .slot .ensures, c .before .new .ensures, c .before .before .if1 .taken, inside t, start t .pre .indexed .limit)
 
 returns : tie.Need-returns Inv-loop μ-loop
 unfolding slotsJudgedOf
 returns c =
     let u = c .before .before .before .before in
     let l = u .before .before .loop in
-    let a = u .before .before .before .before .before .before .before .args in
+    let a = start (u .before) .args in
     let fault = cells-bad 7 (λ j. at-fault (now (a .m)) (a .used) (a .n) (cellIn (l .at) slotSize j)) (cellIn (l .at) slotSize) 256 (bad u) (c .before .before .if1 .taken) in
     rw (← along-bad (l .inv .0) (u .before .loop-test .taken) (l .inv .1) 7 fault, stands c)
 
@@ -103,7 +107,7 @@ loop-again c =
     let u = c .before .before .before .before .before .before in
     let t = u .before in
     let l = t .before .loop in
-    let a = t .before .before .before .before .before .before .args in
+    let a = start t .args in
     let left = c .before .before .before .before .if1 .left in
     let none = cells-good 7 (λ j. at-fault (now (a .m)) (a .used) (a .n) (cellIn (l .at) slotSize j)) (cellIn (l .at) slotSize) 256 (λ i g. bad u .before i (omega arith)) in
     let w = along-on (l .inv .0) (t .loop-test .taken) (l .inv .1) (omega arith) 7 none in
@@ -145,13 +149,13 @@ judge-slots-spec =
     loop-holds
     judge-block-slots-requires
     (λ c κs. search needs)
-    (λ c κs. (omega (arith, c .new .ensures, inside (c .before .before .before .before), c .before .before .before .before .before .before .before .before .before .before .pre .indexed .limit), c .before .if1 .taken))
+    (λ c κs. let t = c .before .before .before .before in (omega (arith, c .new .ensures, inside t, start t .pre .indexed .limit), c .before .if1 .taken))
     fits-32
     returns
     (λ c. omega (arith, pass-few (c .before .before .before .before .before .loop .inv .0 .pass) (omega arith)))
     add-first-free
     (λ c κs. search needs)
-    (λ c κs. omega (arith, inside (c .before .before .before .before .before .before), c .before .before .before .before .before .before .before .before .before .before .before .before .pre .indexed .room))
+    (λ c κs. let t = c .before .before .before .before .before .before in omega (arith, inside t, start t .pre .indexed .room))
     (λ c. search needs)
     (λ c. omega arith)
     (λ c. omega arith)
