@@ -15,24 +15,30 @@ Inv-loop part items cover₀ i₀ cover i = (1 ≤ i) × (i ≤ items) × (cover
 abbrev μ-loop : tie.MeasureT-loop
 μ-loop part items cover₀ i₀ cover i = items - i
 
+-- where the function starts, from the head of the loop
+abbrev start : tie.At-loop Inv-loop μ-loop → tie.Start Inv-loop μ-loop
+start c = c .before .before .before .before .before .before .before
+
 loop-holds : tie.Need-loop-holds Inv-loop μ-loop
 loop-holds c = (omega arith, omega arith, cc (rectangle-one (c .before .before .before .before .before .before .args .part .now)))
 
 join-requires : tie.Need-join-requires Inv-loop μ-loop
 join-requires c κs =
-    let o = c .before .before .before .before .before .before .before .before .before .before .before .before .args .part .now in
-    let i = c .before .before .before .before .before .loop .i in
+    let l = c .before .before .before .before .before in
+    let o = start l .args .part .now in
+    let i = l .loop .i in
     ((cc (rectangle-bare o i)), (cc (unmarked-twice (xOf o i))), (cc (unmarked-twice (yOf o i))))
 
 loop-again : tie.Need-loop-again Inv-loop μ-loop
 loop-again c =
-    let o = c .before .before .before .before .before .before .before .before .before .before .before .before .before .args .part .now in
-    let i = c .before .before .before .before .before .before .loop .i in
+    let l = c .before .before .before .before .before .before in
+    let o = start l .args .part .now in
+    let i = l .loop .i in
     (omega arith, omega arith, cc (rectangle-more o i (omega arith)))
 
 returns : tie.Need-returns Inv-loop μ-loop
 returns c =
-    let e : c .before .loop .i ≡ c .before .before .before .before .before .before .before .before .args .items = omega arith in
+    let e : c .before .loop .i ≡ start (c .before) .args .items = omega arith in
     cc
 
 pub least-rectangle-spec : {M : Type 1} → statement M
