@@ -19,6 +19,13 @@ indexBlockSize = 6148
 abbrev pub slotSize : ℕ
 slotSize = 24
 
+-- and in 9 to 11
+abbrev pub wideBlockSize : ℕ
+wideBlockSize = 10244
+
+abbrev pub wideSlotSize : ℕ
+wideSlotSize = 40
+
 -- a map of the largest size has room for so many index blocks
 abbrev pub mostBlocks : ℕ
 mostBlocks = 2728
@@ -41,12 +48,20 @@ symbolPage = 1024
 abbrev pub symbolRecordSize : ℕ
 symbolRecordSize = 348
 
+-- and in 9 to 11
+abbrev pub wideRecordSize : ℕ
+wideRecordSize = 572
+
 -- an object: its header, then its coordinate pairs
 abbrev pub objectHeaderSize : ℕ
 objectHeaderSize = 32
 
 abbrev pub pairSize : ℕ
 pairSize = 8
+
+-- the header's fields in 9 to 11 have so many bytes
+abbrev pub wideHeaderSize : ℕ
+wideHeaderSize = 40
 
 -- an object has at most so many pairs, in 8 and in 6 and 7; and so many bytes
 abbrev pub mostPairs8 : ℕ

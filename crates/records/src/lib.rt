@@ -9,7 +9,7 @@ ghost use Prim.Native.Nat.{_+_, _-_, _≤_, _<_};
 ghost use lib.ListN.{length};
 ghost use lib.Seq.{sets};
 ghost use Rattle.records.specs.Sizes.{headerSize, journalRecordSize};
-ghost use Rattle.records.specs.Headers.{headerOf, partOf, pairGood};
+ghost use Rattle.records.specs.Headers.{headerOf, partOf, pairGood, isWide, fileTypeGood, versionGood};
 ghost use Rattle.records.specs.Symbols.{sizeGood};
 ghost use Rattle.records.specs.Journals.{recordOf, recordBytes, recordFor, shapeGood, isUnused};
 
@@ -32,10 +32,11 @@ impl Part {
     }
 }
 
-// What the base reads of a map's header, beside the two first links.
+// What is read of a map's header, beside the two first links.
 pub struct Header {
     pub mark: u16,
     pub section: u16,
+    pub file_type: u8,
     pub version: u16,
     pub setup: Part,
     pub info: Part,
@@ -71,6 +72,7 @@ impl Header {
         Header {
             mark: u16_at(m, 0),
             section: u16_at(m, 2),
+            file_type: m[2],
             version: u16_at(m, Header::VERSION),
             setup: Part::at(m, Header::SETUP),
             info: Part::at(m, Header::INFO),
@@ -79,7 +81,7 @@ impl Header {
 }
 
 // The accepted pairs of version and section mark.
-pub fn pair_good(version: u16, section: u16) -> bool
+fn pair_good(version: u16, section: u16) -> bool
     ensures { λ r. ⌜ r ≡ pairGood version section ⌝ }
 {
     match version {
@@ -88,6 +90,39 @@ pub fn pair_good(version: u16, section: u16) -> bool
         8 => section == 2 || section == 3,
         _ => false,
     }
+}
+
+// Whether a map of this version has the wide layout, that of 9 to 11.
+pub fn is_wide(version: u16) -> bool
+    ensures { λ r. ⌜ r ≡ isWide version ⌝ }
+{
+    if version < 9 {
+        return false;
+    }
+    version <= 11
+}
+
+// The file types that the documents list: 0 and 1, and 3 in 9 and 10, 8 in 11.
+fn file_type_good(version: u16, kind: u8) -> bool
+    ensures { λ r. ⌜ r ≡ fileTypeGood version kind ⌝ }
+{
+    if kind <= 1 {
+        return true;
+    }
+    if version == 11 {
+        return kind == 8;
+    }
+    kind == 3
+}
+
+// Whether the version is accepted: with its section mark in 6 to 8, with its file type in 9 to 11.
+pub fn version_good(h: Header) -> bool
+    ensures { λ r. ⌜ r ≡ versionGood h ⌝ }
+{
+    if is_wide(h.version) {
+        return file_type_good(h.version, h.file_type);
+    }
+    pair_good(h.version, h.section)
 }
 
 // A link of a chain: where the next block starts, in so many bytes.

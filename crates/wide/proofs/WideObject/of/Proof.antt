@@ -1,0 +1,13 @@
+use Rattle.wide.specs.Slots.{wideObjectOf}
+use borrow.Author.Needs.{needs}
+use Rattle.wide.proofs.WideObject.of.Statement.{statement}
+use Rattle.wide.proofs.WideObject.of.Tie as tie
+
+returns : tie.Need-returns
+unfolding wideObjectOf
+returns c = cc
+
+pub of-spec : {M : Type 1} → statement M
+of-spec =
+    tie.close
+    (tie.spec (λ c κs. search needs) (λ c. search needs) (λ c κs. search needs) (λ c κs. search needs) returns)
