@@ -16,7 +16,8 @@ use Rattle.numbers.specs.Coordinates.{signed, signed32, floorDiv, valueOf}
 use Rattle.numbers.proofs.Coordinates.{lt-or-ge}
 use Rattle.slots.specs.declared.Slot.{Slot}
 use Rattle.windows.specs.declared.Window.{Window}
-use Rattle.windows.specs.Windows.{meetsWindow}
+use Rattle.windows.specs.declared.Rectangle.{Rectangle}
+use Rattle.windows.specs.Windows.{sidesOf, meetsWindow}
 
 -- each side is a number of 32 bits
 pub record WindowFits (w : Window) : Type 0 where
@@ -124,11 +125,11 @@ module _ (raw : ℕ) {x : ℤ} {z : ℤ} (g : SFits w32 x) (e : x ≡ signed32 r
   value-at-least = rw (cast-is g, e, times-is f) (from-least z (signed32 raw))
 
 -- four tests, joined
-pub four : (t : Slot) (w : Window) {left right bottom top : Bool} → left ≡ leZ (valueOf (t .left)) (w .right) → right ≡ leZ (w .left) (valueOf (t .right))
-    → bottom ≡ leZ (valueOf (t .bottom)) (w .top) → top ≡ leZ (w .bottom) (valueOf (t .top)) → left && right && bottom && top ≡ meetsWindow t w
+pub four : (r : Rectangle) (w : Window) {left right bottom top : Bool} → left ≡ leZ (valueOf (r .left)) (w .right) → right ≡ leZ (w .left) (valueOf (r .right))
+    → bottom ≡ leZ (valueOf (r .bottom)) (w .top) → top ≡ leZ (w .bottom) (valueOf (r .top)) → left && right && bottom && top ≡ meetsWindow r w
 unfolding meetsWindow
-four t w {left} {right} {bottom} {top} l r b u =
-    rw (← l, ← r, ← b, ← u) (and-assoc (left && right) bottom top ∙ and-assoc left right (bottom && top))
+four r w {left} {right} {bottom} {top} l t b u =
+    rw (← l, ← t, ← b, ← u) (and-assoc (left && right) bottom top ∙ and-assoc left right (bottom && top))
 
 -- point (5, 5): found by 5..10 both ways, not by 6..10
 abbrev pub pointSlot : Slot
@@ -137,6 +138,6 @@ pointSlot = record { left = 1280; bottom = 1280; right = 1280; top = 1280; posit
 abbrev pub square : ℕ → ℕ → Window
 square a b = record { left = pos a; bottom = pos a; right = pos b; top = pos b }
 
-pub table : (meetsWindow pointSlot (square 5 10) ≡ true) × (meetsWindow pointSlot (square 6 10) ≡ false)
+pub table : (meetsWindow (sidesOf pointSlot) (square 5 10) ≡ true) × (meetsWindow (sidesOf pointSlot) (square 6 10) ≡ false)
 unfolding meetsWindow valueOf signed
 table = (refl, refl)

@@ -1,11 +1,10 @@
-// Rectangles and windows: the least rectangle over an object's pairs, and whether a slot's rectangle meets a window.
+// Rectangles and windows: the least rectangle over an object's pairs, and whether a rectangle meets a window.
 use numbers::i32_at;
 use numbers::signed_at_most;
 use numbers::signed32_of;
 use numbers::u32_at;
 use numbers::without_marks;
 use slots::ObjectHeader;
-use slots::Slot;
 ghost use mathlib.Core.Path.{_≡_};
 ghost use Prim.Native.Nat.{_+_, _-_, _*_, _≤_, _<_};
 ghost use lib.ListN.{length};
@@ -137,15 +136,15 @@ pub fn window_good(w: Window) -> bool
     if left <= right { bottom <= top } else { false }
 }
 
-// Whether a slot's rectangle meets a window: by value, and touching counts. A raw number's value is at most z just when the number is at most 256 z + 255,
+// Whether a rectangle meets a window: by value, and touching counts. A raw number's value is at most z just when the number is at most 256 z + 255,
 // and at least z just when it is at least 256 z: so no coordinate is divided, and what is done to the window's sides is the same for every slot. All four
 // tests are made, since no branch on a coordinate can be foreseen.
-pub fn meets_window(t: Slot, w: Window) -> bool
-    ensures { λ r. ⌜ r ≡ meetsWindow t w ⌝ }
+pub fn meets_window(r: Rectangle, w: Window) -> bool
+    ensures { λ meets. ⌜ meets ≡ meetsWindow r w ⌝ }
 {
-    let left = signed32_of(t.left) as i64 <= w.right as i64 * 256 + 255;
-    let right = w.left as i64 * 256 <= signed32_of(t.right) as i64;
-    let bottom = signed32_of(t.bottom) as i64 <= w.top as i64 * 256 + 255;
-    let top = w.bottom as i64 * 256 <= signed32_of(t.top) as i64;
+    let left = signed32_of(r.left) as i64 <= w.right as i64 * 256 + 255;
+    let right = w.left as i64 * 256 <= signed32_of(r.right) as i64;
+    let bottom = signed32_of(r.bottom) as i64 <= w.top as i64 * 256 + 255;
+    let top = w.bottom as i64 * 256 <= signed32_of(r.top) as i64;
     left & right & bottom & top
 }

@@ -26,7 +26,7 @@ returns c =
     let b = c .before .before .before .before .before in
     let r = b .before in
     let l = r .before .before .before .before .before in
-    let t = l .before .args .t in
+    let t = l .before .args .r in
     let g = fits (l .before) in
     four t (l .before .args .w)
     (value-at-most (t .left) (sfits-of (l .signed32-of .ok)) (l .signed32-of .ensures) (g .right))
