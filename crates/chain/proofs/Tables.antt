@@ -211,11 +211,18 @@ module _ (k : Kind) (other : List ℕ) where
       (λ p. rw (empty-meets (k .«other_size») (startsOf (k .«other_size») other) (starts-empty (k .«other_size») other e) p (k .size), or-false (share (k .second) (k .«second_size») p (k .size))))
 
   -- where the two ranges are empty, the other table is left
+  no-range : (a p : ℕ) {s : ℕ} → s ≡ 0 → share a s p (k .size) ≡ false
+  no-range a p e = rw (e, share-comm a 0 p (k .size)) (share-empty p (k .size) a)
+
   pub rule-other : k .«first_size» ≡ 0 → k .«second_size» ≡ 0 → kindRule k other ≡ record { head = k .head; size = k .size; taboo = λ p. endsMeet (k .«other_size») other p (k .size) }
   unfolding keepsOff
   rule-other e f =
       rule-from (λ p. endsMeet (k .«other_size») other p (k .size))
-      (λ p. rw (none (k .first) p e, none (k .second) p f))
-    where
-      none : (a p : ℕ) {s : ℕ} → s ≡ 0 → share a s p (k .size) ≡ false
-      none a p e = rw (e, share-comm a 0 p (k .size)) (share-empty p (k .size) a)
+      (λ p. rw (no-range (k .first) p e, no-range (k .second) p f))
+
+  -- and where that is empty too, nothing
+  pub rule-none : k .«first_size» ≡ 0 → k .«second_size» ≡ 0 → Empty other → kindRule k other ≡ record { head = k .head; size = k .size; taboo = λ p. false }
+  unfolding keepsOff
+  rule-none e f g =
+      rule-from (λ p. false)
+      (λ p. rw (no-range (k .first) p e, no-range (k .second) p f) (empty-meets (k .«other_size») (startsOf (k .«other_size») other) (starts-empty (k .«other_size») other g) p (k .size)))

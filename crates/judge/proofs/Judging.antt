@@ -13,7 +13,7 @@ use lib.Seq.{getD-take}
 use borrow.Author.Tests.{not-true, not-false, eqb-true, eqb-false, eq-eqb, ne-eqb, leb-true, leb-false, le-leb, lt-leb}
 use Rattle.numbers.specs.Bytes.{u16At}
 use Rattle.numbers.proofs.Bytes.{leAt-part, leAt-drop}
-use Rattle.records.specs.Sizes.{indexBlockSize, indexPage, objectHeaderSize, objectMost}
+use Rattle.records.specs.Sizes.{indexPage, objectHeaderSize, objectMost}
 use Rattle.records.specs.Headers.{indexHead}
 use Rattle.numbers.proofs.Below.{never}
 use Rattle.numbers.proofs.Coordinates.{lt-or-ge}
@@ -24,7 +24,7 @@ use Rattle.slots.specs.Objects.{objectOf}
 use Rattle.slots.proofs.Slots.{len-room}
 use Rattle.chain.specs.Tables.{EndsTable, endsMeet}
 use Rattle.chain.proofs.Tables.{table-meets}
-use Rattle.judge.specs.Rules.{touches}
+use Rattle.judge.specs.Rules.{Family, touchesOf}
 
 -- a call answered r, which is b: what a branch on `!r` tells of b
 pub fails : {r b : Bool} → r ≡ b → not r ≡ true → b ≡ false
@@ -34,8 +34,8 @@ pub passes : {r b : Bool} → r ≡ b → not r ≡ false → b ≡ true
 passes {r} e t = sym e ∙ not-false r t
 
 -- the table's test of a range is the chain's
-pub same-touch : {m : List ℕ} {n : ℕ} {t : List ℕ} → EndsTable indexBlockSize indexHead indexPage m n t → endsMeet indexBlockSize t ≡ touches m n
-same-touch w = fun-ext (λ p. fun-ext (λ len. table-meets (w .table) indexBlockSize p len))
+pub same-touch : (f : Family) {m : List ℕ} {n : ℕ} {t : List ℕ} → EndsTable (f .block) indexHead indexPage m n t → endsMeet (f .block) t ≡ touchesOf f m n
+same-touch f w = fun-ext (λ p. fun-ext (λ len. table-meets (w .table) (f .block) p len))
 
 -- an object's header, read in a part that has it
 pub object-part : (m : List ℕ) (p : ℕ) {k : ℕ} → objectHeaderSize ≤ k → objectOf (take k (drop p m)) ≡ objectOf (drop p m)

@@ -1,7 +1,7 @@
--- The laws of the two kinds of chain: as the code hands a kind to the walk, it is the rule of specs/; what the walk needs of it; where a link can stand; and how
--- many index blocks there are at most. Assumes nothing.
+-- The laws of the two layouts and the two kinds of chain: how large a block can be; as the code hands a kind to the walk, it is the rule of specs/; what the walk
+-- needs of it; where a link can stand; and how many index blocks there are at most. Assumes nothing.
 use Prim.Native.Nat.{ℕ, zero, suc, _+_, _*_, _≤_, _<_}
-use mathlib.Core.Bool.{Bool}
+use mathlib.Core.Bool.{Bool, true, false}
 use mathlib.Core.Path.{_≡_, refl, sym, ap, _∙_, subst}
 use mathlib.Core.List.{List}
 use native.Mathlib.Omega.{arith}
@@ -9,44 +9,69 @@ use lib.ListN.{length}
 use Rattle.numbers.specs.Bytes.{Bytes}
 use Rattle.numbers.proofs.Bytes.{leAt-lt}
 use Rattle.records.specs.declared.Header.{Header}
-use Rattle.records.specs.Sizes.{headerSize, mapLimit, indexBlockSize, indexPage, mostBlocks, symbolBlockSize, symbolPage}
-use Rattle.records.specs.Headers.{headerOf, setupAt, infoAt, indexHead, symbolHead}
+use Rattle.records.specs.Sizes.{headerSize, mapLimit, indexBlockSize, wideBlockSize, indexPage, mostBlocks, symbolBlockSize, symbolPage}
+use Rattle.records.specs.Headers.{headerOf, setupAt, infoAt, indexHead, symbolHead, isWide}
 use Rattle.chain.specs.declared.Kind.{Kind}
 use Rattle.chain.specs.declared.Walk.{Walk}
 use Rattle.chain.specs.declared.Walk.the-variants.{Fault}
 use Rattle.chain.specs.Chains.{Rule, place, walked, taken}
-use Rattle.chain.specs.Tables.{Empty, Placed, Filled, Table, EndsTable, kindRule, Ready}
+use Rattle.chain.specs.Tables.{Empty, Placed, Table, EndsTable, kindRule, Ready}
 use Rattle.chain.proofs.Chains.{Pass, few, fault-tells}
-use Rattle.chain.proofs.Tables.{rule-ranges, rule-other}
+use Rattle.chain.proofs.Tables.{rule-ranges, rule-other, rule-none}
 use Rattle.chain.proofs.Filled.{empty-filled}
-use Rattle.judge.specs.Rules.{indexRule, symbolRule}
-use Rattle.judge.specs.Kinds.{indexKind, symbolKind}
+use Rattle.chain.specs.Indexed.{Indexed}
+use Rattle.judge.specs.Judging.{versionOf}
+use Rattle.judge.specs.Rules.{Family, familyFor, familyOf, indexRuleOf, symbolRuleOf}
+use Rattle.judge.specs.Kinds.{partSize, indexKind, symbolKind}
 use Rattle.judge.proofs.Judging.{same-touch}
+
+-- ---- the two layouts
+
+-- an index block of either has more bytes than a page of its table, and few enough
+pub record Sized (f : Family) : Type 0 where
+  pub least : indexBlockSize ≤ f .block
+  pub most : f .block ≤ wideBlockSize
+
+pub sized : (b : Bool) → Sized (familyFor b)
+sized true = record { least = omega arith; most = omega arith }
+sized false = record { least = omega arith; most = omega arith }
 
 -- ---- index blocks
 
 -- they share no byte, so a map has room for so many
-pub most-blocks : {m : List ℕ} {used n : ℕ} → Pass (indexRule m) m used n → used ≤ mapLimit → n ≤ mostBlocks
-most-blocks h l = omega (arith, few h (omega arith))
+pub most-blocks : (b : Bool) {m : List ℕ} {used n : ℕ} → Pass (indexRuleOf (familyFor b) m) m used n → used ≤ mapLimit → n ≤ mostBlocks
+most-blocks true h l = omega (arith, few h (omega arith))
+most-blocks false h l = omega (arith, few h (omega arith))
+
+part-fits : (b : Bool) (n : ℕ) → n < 4294967296 → partSize b n < 4294967296
+part-fits true n l = omega arith
+part-fits false n l = l
+
+module _ (m : List ℕ) (none : List ℕ) (g : Empty none) where
+  index-rule-in : (b : Bool) → isWide (versionOf m) ≡ b → kindRule (indexKind (headerOf m)) none ≡ indexRuleOf (familyOf m) m
+  unfolding headerOf
+  index-rule-in true e = rw e (rule-none _ none refl refl g)
+  index-rule-in false e = rw e (rule-ranges _ none g)
 
 module _ (m : List ℕ) {h : Header} {k : Kind} (e : h ≡ headerOf m) (f : k ≡ indexKind h) (none : List ℕ) (g : Empty none) where
-  pub index-rule : kindRule k none ≡ indexRule m
-  unfolding headerOf
-  index-rule = rw (f, e) (rule-ranges (indexKind (headerOf m)) none g)
+  pub index-rule : kindRule k none ≡ indexRuleOf (familyOf m) m
+  index-rule = rw (f, e) (index-rule-in m none g (isWide (versionOf m)) refl)
 
   pub index-ready : {used : ℕ} {t : List ℕ} → Bytes m → headerSize ≤ used → used ≤ mapLimit → 2 ≤ length none → used + indexPage ≤ length t * indexPage → Ready k used none t
   unfolding headerOf
   index-ready b least most reach wide =
+      let w : Bool = isWide (versionOf m) in
+      let s : Sized (familyFor w) = sized w in
       rw (f, e)
       (record {
         bounds = record {
           most = most;
-          block-least = omega arith;
-          block-most = omega arith;
+          block-least = omega (arith, s .least);
+          block-most = omega (arith, s .most);
           first-fits = leAt-lt 4 m setupAt b;
-          first-size-fits = leAt-lt 4 m 20 b;
+          first-size-fits = part-fits w _ (leAt-lt 4 m 20 b);
           second-fits = leAt-lt 4 m infoAt b;
-          second-size-fits = leAt-lt 4 m 28 b;
+          second-size-fits = part-fits w _ (leAt-lt 4 m 28 b);
           other-least = omega arith;
           other-most = omega arith;
           other-page = omega arith;
@@ -56,36 +81,36 @@ module _ (m : List ℕ) {h : Header} {k : Kind} (e : h ≡ headerOf m) (f : k �
         least = least;
         head-in = omega arith;
         page-least = omega arith;
-        page-most = omega arith;
+        page-most = omega (arith, s .least);
         wide = wide;
       })
 
 -- ---- symbol blocks
 
-module _ {k : Kind} (e : k ≡ symbolKind) where
-  pub symbol-rule : {m : List ℕ} {n : ℕ} {index : List ℕ} → EndsTable indexBlockSize indexHead indexPage m n index → kindRule k index ≡ symbolRule m n
+module _ (f : Family) {k : Kind} (e : k ≡ symbolKind (f .block)) where
+  pub symbol-rule : {m : List ℕ} {n : ℕ} {index : List ℕ} → EndsTable (f .block) indexHead indexPage m n index → kindRule k index ≡ symbolRuleOf f m n
   symbol-rule {index} w =
       rw e
-      (rule-other symbolKind index refl refl
-      ∙ ap (λ (touch : ℕ → ℕ → Bool). record { head = symbolHead; size = symbolBlockSize; taboo = λ p. touch p symbolBlockSize }) (same-touch w))
+      (rule-other (symbolKind (f .block)) index refl refl
+      ∙ ap (λ (touch : ℕ → ℕ → Bool). record { head = symbolHead; size = symbolBlockSize; taboo = λ p. touch p symbolBlockSize }) (same-touch f w))
 
-  pub symbol-ready : {used : ℕ} {index t : List ℕ} → headerSize ≤ used → used ≤ mapLimit → used + indexPage ≤ length index * indexPage → Filled indexBlockSize indexPage used index → used + symbolPage ≤ length t * symbolPage → Ready k used index t
-  symbol-ready least most reach filled wide =
+  pub symbol-ready : Sized f → {m : List ℕ} {used : ℕ} {index t : List ℕ} → headerSize ≤ used → Indexed (f .block) m used index → used + symbolPage ≤ length t * symbolPage → Ready k used index t
+  symbol-ready s least indexed wide =
       rw e
       (record {
         bounds = record {
-          most = most;
+          most = indexed .limit;
           block-least = omega arith;
           block-most = omega arith;
           first-fits = omega arith;
           first-size-fits = omega arith;
           second-fits = omega arith;
           second-size-fits = omega arith;
-          other-least = omega arith;
-          other-most = omega arith;
+          other-least = omega (arith, s .least);
+          other-most = omega (arith, s .most);
           other-page = omega arith;
-          other-wide = reach;
-          other-filled = filled;
+          other-wide = indexed .wide;
+          other-filled = indexed .filled;
         };
         least = least;
         head-in = omega arith;

@@ -1,27 +1,34 @@
 -- For inner contracts: a reader of the promises may skip this file. The two kinds of chain as the code hands them to the walk; Rules says what they mean.
---     indexKind h           the kind of the index blocks, by the header's setup and info
---     symbolKind            the kind of the symbol blocks: they keep off the blocks of the index table
+--     partSize b n          the bytes of setup or info that index blocks keep off: none in the wide layout
+--     indexKind h           the kind of the index blocks, by the header: in 6 to 8 they keep off setup and info
+--     symbolKind n          the kind of the symbol blocks: they keep off the blocks of the index table, n bytes each
+use Prim.Native.Nat.{ℕ}
+use mathlib.Core.Bool.{Bool, cond}
 use Rattle.records.specs.Sizes.{indexBlockSize, indexPage, symbolBlockSize, symbolPage, mapLimit}
-use Rattle.records.specs.Headers.{indexHead, symbolHead}
+use Rattle.records.specs.Headers.{indexHead, symbolHead, isWide}
 use Rattle.records.specs.declared.Header.{Header}
 use Rattle.chain.specs.declared.Kind.{Kind}
+use Rattle.judge.specs.Rules.{familyIn}
+
+abbrev pub partSize : Bool → ℕ → ℕ
+partSize wide n = cond wide 0 n
 
 abbrev pub indexKind : Header → Kind
 indexKind h =
     record {
       head = indexHead;
-      size = indexBlockSize;
+      size = familyIn (h .version) .block;
       page = indexPage;
       first = h .setup .at;
-      «first_size» = h .setup .size;
+      «first_size» = partSize (isWide (h .version)) (h .setup .size);
       second = h .info .at;
-      «second_size» = h .info .size;
+      «second_size» = partSize (isWide (h .version)) (h .info .size);
       «other_size» = indexBlockSize;
       «other_page» = mapLimit;
     }
 
-abbrev pub symbolKind : Kind
-symbolKind =
+abbrev pub symbolKind : ℕ → Kind
+symbolKind n =
     record {
       head = symbolHead;
       size = symbolBlockSize;
@@ -30,6 +37,6 @@ symbolKind =
       «first_size» = 0;
       second = 0;
       «second_size» = 0;
-      «other_size» = indexBlockSize;
+      «other_size» = n;
       «other_page» = indexPage;
     }

@@ -1,4 +1,5 @@
-// Whether one thing in a map is as document 01 wants it: setup and info, a live slot with its object, a symbol entry with its record.
+// Whether one thing in a map is as document 01 wants it: setup and info, a live slot of 6 to 8 with its object, a symbol entry with its record; and the kinds of
+// chain.
 use chain::Kind;
 use chain::meets_block;
 use numbers::at_most;
@@ -6,6 +7,7 @@ use numbers::u16_at;
 use records::Header;
 use records::Part;
 use records::SymbolBlock;
+use records::is_wide;
 use records::size_good;
 use slots::IndexBlock;
 use slots::ObjectHeader;
@@ -13,6 +15,8 @@ use slots::Slot;
 use slots::bytes_in;
 use slots::bytes_in_range;
 use slots::type_good;
+use wide::WideSlot;
+use wide::wide_bad_entry;
 ghost use mathlib.Core.Path.{_≡_};
 ghost use mathlib.Core.Bool.{true, _&&_};
 ghost use Prim.Native.Nat.{ℕ, _+_, _*_, _≤_, _<_};
@@ -21,8 +25,9 @@ ghost use Rattle.numbers.specs.Below.{first};
 ghost use Rattle.records.specs.Sizes.{indexBlockSize, mapLimit};
 ghost use Rattle.slots.specs.Slots.{slotOf, lenGood, bytesIn, bytesInRange};
 ghost use Rattle.chain.specs.Tables.{endsMeet};
-ghost use Rattle.judge.specs.Indexed.{Indexed};
-ghost use Rattle.judge.specs.Kinds.{indexKind, symbolKind};
+ghost use Rattle.chain.specs.Indexed.{Indexed};
+ghost use Rattle.judge.specs.Rules.{familyIn};
+ghost use Rattle.judge.specs.Kinds.{partSize, indexKind, symbolKind};
 ghost use Rattle.judge.specs.Judging.{partGood, headerFits, objectGood, slotGood, badSlot, symbolGood, badEntry};
 
 // Setup or info: absent, or behind the header and inside the map.
@@ -55,7 +60,7 @@ fn header_fits(h: ObjectHeader, t: Slot, bytes: usize) -> bool
 
 // Whether a slot's Len is allowed and its object is good. The part of the map that starts at its position is handed on.
 fn object_good(m: &[u8], used: usize, version: u16, index: &[u32], t: Slot) -> bool
-    requires { ⌜ Indexed (now m) used (now index) × (t .len ≡ 0 → ⊥) ⌝ }
+    requires { ⌜ Indexed indexBlockSize (now m) used (now index) × (t .len ≡ 0 → ⊥) ⌝ }
     ensures { λ r. ⌜ r ≡ (lenGood version (t .len) && objectGood (endsMeet indexBlockSize (now (index .entry))) (now (m .entry)) used version t) ⌝ }
 {
     let at = t.position as usize;
@@ -77,7 +82,7 @@ fn object_good(m: &[u8], used: usize, version: u16, index: &[u32], t: Slot) -> b
 
 // Whether a slot that is not free would be good as a live one. The two comparisons stand apart for the sake of time (DECISIONS, C9).
 pub fn slot_good(m: &[u8], used: usize, version: u16, index: &[u32], t: Slot) -> bool
-    requires { ⌜ Indexed (now m) used (now index) × (t .len ≡ 0 → ⊥) ⌝ }
+    requires { ⌜ Indexed indexBlockSize (now m) used (now index) × (t .len ≡ 0 → ⊥) ⌝ }
     ensures { λ r. ⌜ r ≡ slotGood (endsMeet indexBlockSize (now (index .entry))) (now (m .entry)) used version t ⌝ }
 {
     if !at_most(t.left, t.right) {
@@ -91,7 +96,7 @@ pub fn slot_good(m: &[u8], used: usize, version: u16, index: &[u32], t: Slot) ->
 
 // Whether a slot that is not free is live and not good.
 pub fn bad_slot(m: &[u8], used: usize, version: u16, index: &[u32], t: Slot) -> bool
-    requires { ⌜ Indexed (now m) used (now index) × (t .len ≡ 0 → ⊥) ⌝ }
+    requires { ⌜ Indexed indexBlockSize (now m) used (now index) × (t .len ≡ 0 → ⊥) ⌝ }
     ensures { λ r. ⌜ ((at : ℕ) → t ≡ slotOf (now (m .entry)) at
         → r ≡ badSlot (endsMeet indexBlockSize (now (index .entry))) (now (m .entry)) used version at) ⌝ }
 {
@@ -102,8 +107,8 @@ pub fn bad_slot(m: &[u8], used: usize, version: u16, index: &[u32], t: Slot) -> 
 }
 
 // Whether a symbol record is good.
-pub fn symbol_good(m: &[u8], used: usize, index: &[u32], at: usize) -> bool
-    requires { ⌜ (at < 4294967296) × Indexed (now m) used (now index) ⌝ }
+fn symbol_good(m: &[u8], used: usize, index: &[u32], at: usize) -> bool
+    requires { ⌜ (at < 4294967296) × Indexed indexBlockSize (now m) used (now index) ⌝ }
     ensures { λ r. ⌜ r ≡ symbolGood (endsMeet indexBlockSize (now (index .entry))) (now (m .entry)) used at ⌝ }
 {
     if at < Header::SIZE {
@@ -123,8 +128,8 @@ pub fn symbol_good(m: &[u8], used: usize, index: &[u32], at: usize) -> bool
 }
 
 // Whether a symbol entry that says p is used and its record is not good.
-pub fn bad_entry(m: &[u8], used: usize, index: &[u32], p: usize) -> bool
-    requires { ⌜ (p < 4294967296) × Indexed (now m) used (now index) ⌝ }
+fn bad_entry(m: &[u8], used: usize, index: &[u32], p: usize) -> bool
+    requires { ⌜ (p < 4294967296) × Indexed indexBlockSize (now m) used (now index) ⌝ }
     ensures { λ r. ⌜ ((at : ℕ) → p ≡ u32At (now (m .entry)) at → r ≡ badEntry (endsMeet indexBlockSize (now (index .entry))) (now (m .entry)) used at) ⌝ }
 {
     if p == 0 {
@@ -133,9 +138,31 @@ pub fn bad_entry(m: &[u8], used: usize, index: &[u32], p: usize) -> bool
     !symbol_good(m, used, index, p)
 }
 
-// The chain of symbol blocks, as a kind: its blocks keep off the index blocks.
-pub fn symbol_kind() -> Kind
-    ensures { λ r. ⌜ r ≡ symbolKind ⌝ }
+// Whether a symbol entry that says p, in a map of this version, is used and its record is not good.
+pub fn entry_at_fault(m: &[u8], used: usize, version: u16, index: &[u32], p: usize) -> bool
+    requires { ⌜ (p < 4294967296) × Indexed (familyIn version .block) (now m) used (now index) ⌝ }
+    ensures { λ r. ⌜ ((at : ℕ) → p ≡ u32At (now (m .entry)) at
+        → r ≡ familyIn version .entryAtFault (endsMeet (familyIn version .block) (now (index .entry))) (now (m .entry)) used at) ⌝ }
+{
+    if is_wide(version) {
+        return wide_bad_entry(m, used, index, p);
+    }
+    bad_entry(m, used, index, p)
+}
+
+// The bytes of an index block.
+pub fn block_size(version: u16) -> usize
+    ensures { λ r. ⌜ r ≡ familyIn version .block ⌝ }
+{
+    if is_wide(version) {
+        return WideSlot::BLOCK;
+    }
+    IndexBlock::SIZE
+}
+
+// The chain of symbol blocks, as a kind: its blocks keep off the index blocks, which have so many bytes.
+pub fn symbol_kind(block: usize) -> Kind
+    ensures { λ r. ⌜ r ≡ symbolKind block ⌝ }
 {
     Kind {
         head: Header::SYMBOLS,
@@ -145,25 +172,33 @@ pub fn symbol_kind() -> Kind
         first_size: 0,
         second: 0,
         second_size: 0,
-        other_size: IndexBlock::SIZE,
+        other_size: block,
         other_page: IndexBlock::PAGE,
     }
 }
 
-// The chain of index blocks, as a kind: its blocks keep off setup and info. The other table is empty.
+// The bytes of setup or info that index blocks keep off.
+fn part_size(wide: bool, size: u32) -> usize
+    ensures { λ r. ⌜ r ≡ partSize wide size ⌝ }
+{
+    if wide { 0 } else { size as usize }
+}
+
+// The chain of index blocks, as a kind: in 6 to 8 its blocks keep off setup and info. The other table is empty.
 pub fn index_kind(h: Header) -> Kind
     ensures { λ r. ⌜ r ≡ indexKind h ⌝ }
 {
     let setup = h.setup;
     let info = h.info;
+    let wide = is_wide(h.version);
     Kind {
         head: Header::INDEX,
-        size: IndexBlock::SIZE,
+        size: block_size(h.version),
         page: IndexBlock::PAGE,
         first: setup.at as usize,
-        first_size: setup.size as usize,
+        first_size: part_size(wide, setup.size),
         second: info.at as usize,
-        second_size: info.size as usize,
+        second_size: part_size(wide, info.size),
         other_size: IndexBlock::SIZE,
         other_page: Header::LIMIT,
     }
