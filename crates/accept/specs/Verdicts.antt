@@ -4,14 +4,15 @@
 --     unless j v                the refusal of the fault that j has, or else v
 --     firstOf j k               the fault that j has, or else that of k
 --     cellsJudged               the first cell at fault, by number: the place where it stands
---     headerJudged m used       1: the length. 2: the mark. 3: the version pair. 4: setup (16), then info (24)
+--     headerJudged m used       1: the length. 2: the mark. 3: the version, with its section mark in 6 to 8 and its file type in 9 to 11. 4: setup (16), then
+--                               info (24); there is no 4 in 9 to 11
 --     linkJudged                6: the link of a symbol block, at the place where the link is stored
 --     symbolsJudged m used n    6: of the symbol blocks taken, the first entry at fault; then the link at which the walk stopped. That is the order a block,
 --                               its entries, then its link
 --     slotsJudged m used n      7: the live slot at fault of lowest number
 --     afterIndex, verdict       5: the link of an index block, at the place where the link is stored; then 6, then 7
 --     Checked m used v          the check's result: its answer v is the verdict
---     entriesJudgedOf f, symbolsJudgedOf f, slotsJudgedOf f, afterIndexOf f     the same of a family (`judge`, Rules); those without a family are of 6, 7 and 8
+--     entriesJudgedOf f, symbolsJudgedOf f, slotsJudgedOf f, afterIndexOf f     the same of a layout (`judge`, Rules); those without one are of the map's own
 use Prim.Native.Nat.{ℕ, _*_}
 use mathlib.Core.Bool.{Bool, cond}
 use mathlib.Core.Path.{_≡_}
@@ -19,7 +20,7 @@ use mathlib.Core.List.{List}
 use lib.Dec.{ltb, eqb}
 use Rattle.numbers.specs.Below.{first}
 use Rattle.records.specs.declared.Header.{Header}
-use Rattle.records.specs.Headers.{headerOf, pairGood, setupAt, infoAt}
+use Rattle.records.specs.Headers.{headerOf, versionGood, isWide, setupAt, infoAt}
 use Rattle.chain.specs.declared.Walk.{Walk}
 use Rattle.chain.specs.declared.Walk.the-variants.{Blocks, Fault}
 use Rattle.chain.specs.Chains.{walked, taken}
@@ -27,7 +28,7 @@ use Rattle.accept.specs.declared.Verdict.{Verdict}
 use Rattle.accept.specs.declared.Verdict.the-variants.{Accepted, Refused}
 use Rattle.accept.specs.declared.JudgedMap.{JudgedMap}
 use Rattle.accept.specs.declared.JudgedMap.the-variants.{Good, Bad}
-use Rattle.judge.specs.Rules.{Family, narrow, indexRule, symbolRuleOf, touchesOf, slotAtOf, entryAt}
+use Rattle.judge.specs.Rules.{Family, familyOf, indexRuleOf, symbolRuleOf, touchesOf, slotAtOf, entryAt}
 use Rattle.judge.specs.Judging.{lengthGood, partGood}
 use Rattle.records.specs.Sizes.{blockCells}
 
@@ -46,13 +47,12 @@ unless (Bad n p) v = Refused n p
 unfoldable pub cellsJudged : ℕ → (ℕ → Bool) → (ℕ → ℕ) → ℕ → JudgedMap
 cellsJudged number bad place n = cond (ltb (first bad n) n) (Bad number (place (first bad n))) Good
 
+unfoldable pub partsJudged : Header → ℕ → JudgedMap
+partsJudged h used = cond (partGood used (h .setup)) (cond (partGood used (h .info)) Good (Bad 4 infoAt)) (Bad 4 setupAt)
+
 unfoldable pub fieldsJudged : Header → ℕ → JudgedMap
 fieldsJudged h used =
-    cond (eqb (h .mark) 3245)
-    (cond (pairGood (h .version) (h .section))
-    (cond (partGood used (h .setup)) (cond (partGood used (h .info)) Good (Bad 4 infoAt)) (Bad 4 setupAt))
-    (Bad 3 0))
-    (Bad 2 0)
+    cond (eqb (h .mark) 3245) (cond (versionGood h) (cond (isWide (h .version)) Good (partsJudged h used)) (Bad 3 0)) (Bad 2 0)
 
 unfoldable pub headerJudged : List ℕ → ℕ → JudgedMap
 headerJudged m used = cond (lengthGood m used) (fieldsJudged (headerOf m) used) (Bad 1 0)
@@ -80,19 +80,19 @@ afterIndexOf f m used (Blocks n) = unless (symbolsJudgedOf f m used n) (unless (
 afterIndexOf f m used (Fault p n) = Refused 5 p
 
 abbrev pub entriesJudged : List ℕ → ℕ → ℕ → ℕ → JudgedMap
-entriesJudged m used n k = entriesJudgedOf narrow m used n k
+entriesJudged m used n k = entriesJudgedOf (familyOf m) m used n k
 
 abbrev pub symbolsJudged : List ℕ → ℕ → ℕ → JudgedMap
-symbolsJudged m used n = symbolsJudgedOf narrow m used n
+symbolsJudged m used n = symbolsJudgedOf (familyOf m) m used n
 
 abbrev pub slotsJudged : List ℕ → ℕ → ℕ → JudgedMap
-slotsJudged m used n = slotsJudgedOf narrow m used n
+slotsJudged m used n = slotsJudgedOf (familyOf m) m used n
 
 abbrev pub afterIndex : List ℕ → ℕ → Walk → Verdict
-afterIndex m used w = afterIndexOf narrow m used w
+afterIndex m used w = afterIndexOf (familyOf m) m used w
 
 unfoldable pub verdict : List ℕ → ℕ → Verdict
-verdict m used = unless (headerJudged m used) (afterIndex m used (walked (indexRule m) m used))
+verdict m used = unless (headerJudged m used) (afterIndex m used (walked (indexRuleOf (familyOf m) m) m used))
 
 abbrev pub Checked : List ℕ → ℕ → Verdict → Type 0
 Checked m used v = v ≡ verdict m used

@@ -2,8 +2,10 @@
 use super::JudgedMap;
 use chain::Walk;
 use chain::walk_chain;
-use judge::bad_entry;
+use judge::block_size;
+use judge::entry_at_fault;
 use judge::symbol_kind;
+use numbers::u16_at;
 use numbers::u32_at;
 use records::Header;
 use records::LINK;
@@ -11,28 +13,28 @@ use records::SymbolBlock;
 ghost use mathlib.Core.Path.{_≡_};
 ghost use Prim.Native.Nat.{_+_, _*_, _≤_, _<_};
 ghost use lib.ListN.{length};
-ghost use Rattle.records.specs.Sizes.{headerSize, indexBlockSize, indexPage, symbolBlockSize, symbolPage, entrySize, smallMap, middleMap, blockCells};
+ghost use Rattle.records.specs.Sizes.{headerSize, indexPage, symbolBlockSize, symbolPage, entrySize, smallMap, middleMap, blockCells};
 ghost use Rattle.records.specs.Headers.{indexHead};
 ghost use Rattle.chain.specs.Chains.{taken};
 ghost use Rattle.chain.specs.Cells.{cellIn};
-ghost use Rattle.chain.specs.Tables.{Empty, EndsTable, endsMeet};
+ghost use Rattle.chain.specs.Tables.{Empty, EndsTable};
 ghost use Rattle.chain.specs.declared.Walk.the-variants.{Blocks};
-ghost use Rattle.judge.specs.Indexed.{Indexed};
-ghost use Rattle.judge.specs.Rules.{symbolRule};
-ghost use Rattle.judge.specs.Judging.{badEntry};
+ghost use Rattle.chain.specs.Indexed.{Indexed};
+ghost use Rattle.judge.specs.Rules.{familyIn, familyOf, symbolRuleOf};
+ghost use Rattle.accept.specs.Opens.{entryFault};
 ghost use Rattle.accept.specs.Verdicts.{cellsJudged, entriesJudged, symbolsJudged};
 
 // 6, of one symbol block: the first entry at fault.
-fn judge_block_entries(m: &[u8], used: usize, index: &[u32], block: usize) -> JudgedMap
-    requires { ⌜ (block + symbolBlockSize ≤ used) × Indexed (now m) used (now index) ⌝ }
+fn judge_block_entries(m: &[u8], used: usize, version: u16, index: &[u32], block: usize) -> JudgedMap
+    requires { ⌜ (block + symbolBlockSize ≤ used) × Indexed (familyIn version .block) (now m) used (now index) ⌝ }
     ensures { λ r. ⌜ r
-        ≡ cellsJudged 6 (λ e. badEntry (endsMeet indexBlockSize (now (index .entry))) (now (m .entry)) used (cellIn block entrySize e)) (cellIn block entrySize) blockCells ⌝ }
+        ≡ cellsJudged 6 (λ e. entryFault version (now (m .entry)) used (now (index .entry)) (cellIn block entrySize e)) (cellIn block entrySize) blockCells ⌝ }
 {
     let mut at = block + LINK;
     let mut e = 0usize;
     while e < SymbolBlock::ENTRIES {
         let p = u32_at(m, at) as usize;
-        if bad_entry(m, used, index, p) {
+        if entry_at_fault(m, used, version, index, p) {
             return JudgedMap::Bad {
                 number: 6,
                 place: at as u32,
@@ -46,15 +48,16 @@ fn judge_block_entries(m: &[u8], used: usize, index: &[u32], block: usize) -> Ju
 
 // 6, of the first k symbol blocks: the first entry at fault.
 fn judge_entries(m: &[u8], used: usize, index: &[u32], n: usize, k: usize) -> JudgedMap
-    requires { ⌜ (headerSize ≤ used) × Indexed (now m) used (now index) × EndsTable indexBlockSize indexHead indexPage (now m) n (now index)
-        × (k ≡ taken (symbolRule (now m) n) (now m) used) ⌝ }
+    requires { ⌜ (headerSize ≤ used) × Indexed (familyOf (now m) .block) (now m) used (now index) × EndsTable (familyOf (now m) .block) indexHead indexPage (now m) n (now index)
+        × (k ≡ taken (symbolRuleOf (familyOf (now m)) (now m) n) (now m) used) ⌝ }
     ensures { λ r. ⌜ r ≡ entriesJudged (now (m .entry)) used n k ⌝ }
 {
+    let version = u16_at(m, Header::VERSION);
     let mut at = Header::SYMBOLS;
     let mut i = 0;
     while i < k {
         at = u32_at(m, at) as usize;
-        let j = judge_block_entries(m, used, index, at);
+        let j = judge_block_entries(m, used, version, index, at);
         match j {
             JudgedMap::Bad { number, place } => {
                 return JudgedMap::Bad { number, place };
@@ -68,11 +71,12 @@ fn judge_entries(m: &[u8], used: usize, index: &[u32], n: usize, k: usize) -> Ju
 
 // 6: the symbol blocks and their entries. A table for the blocks is lent, empty before.
 fn judge_symbol_blocks(m: &[u8], used: usize, index: &[u32], n: usize, t: &mut [u32]) -> JudgedMap
-    requires { ⌜ (headerSize ≤ used) × Indexed (now m) used (now index) × EndsTable indexBlockSize indexHead indexPage (now m) n (now index)
+    requires { ⌜ (headerSize ≤ used) × Indexed (familyOf (now m) .block) (now m) used (now index) × EndsTable (familyOf (now m) .block) indexHead indexPage (now m) n (now index)
         × (used + symbolPage ≤ length (now t) * symbolPage) × Empty (now t) ⌝ }
     ensures { λ r. ⌜ r ≡ symbolsJudged (now (m .entry)) used n ⌝ }
 {
-    let w = walk_chain(m, used, symbol_kind(), index, t);
+    let block = block_size(u16_at(m, Header::VERSION));
+    let w = walk_chain(m, used, symbol_kind(block), index, t);
     match w {
         Walk::Blocks(k) => judge_entries(m, used, index, n, k),
         Walk::Fault { place, taken } => {
@@ -90,8 +94,8 @@ fn judge_symbol_blocks(m: &[u8], used: usize, index: &[u32], n: usize, t: &mut [
 
 // 6, of a small map. Each size of the table stands in a function of its own: so the compiler gives them the same room.
 fn small_symbols(m: &[u8], used: usize, index: &[u32], n: usize) -> JudgedMap
-    requires { ⌜ (headerSize ≤ used) × (used ≤ smallMap) × Indexed (now m) used (now index)
-        × EndsTable indexBlockSize indexHead indexPage (now m) n (now index) ⌝ }
+    requires { ⌜ (headerSize ≤ used) × (used ≤ smallMap) × Indexed (familyOf (now m) .block) (now m) used (now index)
+        × EndsTable (familyOf (now m) .block) indexHead indexPage (now m) n (now index) ⌝ }
     ensures { λ r. ⌜ r ≡ symbolsJudged (now (m .entry)) used n ⌝ }
 {
     let mut t = [0u32; SymbolBlock::SMALL_TABLE];
@@ -100,8 +104,8 @@ fn small_symbols(m: &[u8], used: usize, index: &[u32], n: usize) -> JudgedMap
 
 // 6, of a map of middle size.
 fn middle_symbols(m: &[u8], used: usize, index: &[u32], n: usize) -> JudgedMap
-    requires { ⌜ (headerSize ≤ used) × (used ≤ middleMap) × Indexed (now m) used (now index)
-        × EndsTable indexBlockSize indexHead indexPage (now m) n (now index) ⌝ }
+    requires { ⌜ (headerSize ≤ used) × (used ≤ middleMap) × Indexed (familyOf (now m) .block) (now m) used (now index)
+        × EndsTable (familyOf (now m) .block) indexHead indexPage (now m) n (now index) ⌝ }
     ensures { λ r. ⌜ r ≡ symbolsJudged (now (m .entry)) used n ⌝ }
 {
     let mut t = [0u32; SymbolBlock::MIDDLE_TABLE];
@@ -110,7 +114,7 @@ fn middle_symbols(m: &[u8], used: usize, index: &[u32], n: usize) -> JudgedMap
 
 // 6, of any map.
 fn large_symbols(m: &[u8], used: usize, index: &[u32], n: usize) -> JudgedMap
-    requires { ⌜ (headerSize ≤ used) × Indexed (now m) used (now index) × EndsTable indexBlockSize indexHead indexPage (now m) n (now index) ⌝ }
+    requires { ⌜ (headerSize ≤ used) × Indexed (familyOf (now m) .block) (now m) used (now index) × EndsTable (familyOf (now m) .block) indexHead indexPage (now m) n (now index) ⌝ }
     ensures { λ r. ⌜ r ≡ symbolsJudged (now (m .entry)) used n ⌝ }
 {
     let mut t = [0u32; SymbolBlock::TABLE];
@@ -119,7 +123,7 @@ fn large_symbols(m: &[u8], used: usize, index: &[u32], n: usize) -> JudgedMap
 
 // 6, with a table as large as the map needs: none where there are no symbol blocks.
 pub fn judge_symbols(m: &[u8], used: usize, index: &[u32], n: usize) -> JudgedMap
-    requires { ⌜ (headerSize ≤ used) × Indexed (now m) used (now index) × EndsTable indexBlockSize indexHead indexPage (now m) n (now index) ⌝ }
+    requires { ⌜ (headerSize ≤ used) × Indexed (familyOf (now m) .block) (now m) used (now index) × EndsTable (familyOf (now m) .block) indexHead indexPage (now m) n (now index) ⌝ }
     ensures { λ r. ⌜ r ≡ symbolsJudged (now (m .entry)) used n ⌝ }
 {
     if u32_at(m, Header::SYMBOLS) == 0 {

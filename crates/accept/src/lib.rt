@@ -2,18 +2,24 @@
 mod entries;
 mod fields;
 mod live;
+mod wide_slots;
 
 use chain::Walk;
 use chain::fill;
 use chain::walk_chain;
 use entries::judge_symbols;
 use fields::judge_header;
+use judge::block_size;
 use judge::index_kind;
 use live::judge_slots;
+use numbers::u16_at;
 use numbers::u32_at;
 use records::Header;
+use records::is_wide;
 use slots::IndexBlock;
+use wide_slots::judge_wide_slots;
 ghost use mathlib.Core.Path.{_≡_};
+ghost use mathlib.Core.Bool.{true};
 ghost use Prim.Native.Nat.{ℕ, _+_, _*_, _≤_, _<_};
 ghost use lib.ListN.{length};
 ghost use Rattle.records.specs.Sizes.{headerSize, indexBlockSize, indexPage, mapLimit};
@@ -23,9 +29,11 @@ ghost use Rattle.chain.specs.Tables.{Empty, Placed, Filled, Table, EndsTable};
 ghost use Rattle.chain.specs.declared.Walk.the-variants.{Blocks};
 ghost use Rattle.accept.specs.declared.Verdict.the-variants.{Accepted};
 ghost use Rattle.accept.specs.declared.ExaminedMap.the-variants as examined;
-ghost use Rattle.judge.specs.Rules.{indexRule};
-ghost use Rattle.accept.specs.Opens.{openedAfter, openedOf, afterOpened, Opens, withFree};
-ghost use Rattle.accept.specs.Verdicts.{numberOf, placeOf, afterIndex, verdict, Checked};
+ghost use Rattle.records.specs.Headers.{isWide};
+ghost use Rattle.judge.specs.Judging.{versionOf};
+ghost use Rattle.judge.specs.Rules.{wide, familyOf, indexRuleOf};
+ghost use Rattle.accept.specs.Opens.{openedAfter, openedOf, afterOpened, OpenOf, Open, Opens, withFree};
+ghost use Rattle.accept.specs.Verdicts.{numberOf, placeOf, unless, slotsJudged, afterIndex, verdict, Checked};
 
 // What the check answers. Refusals carry document 01's number and place.
 pub enum Verdict {
@@ -33,9 +41,11 @@ pub enum Verdict {
     Refused { number: u32, place: u32 },
 }
 
-// What the examination for an edit answers: accepted, with the number of index blocks and the first free slot, 256 times the blocks where none is free.
+// What the examination for an edit answers: accepted, with the number of index blocks and the first free slot, 256 times the blocks where none is free; or
+// accepted and of 9 to 11, which no edit takes.
 pub enum ExaminedMap {
     Accepted { blocks: usize, free: usize },
+    Wide { blocks: usize },
     Refused { number: u32, place: u32 },
 }
 
@@ -74,13 +84,13 @@ pub fn place(v: Verdict) -> u32
 // 6, of a map whose index blocks are good. Their table is filled first.
 fn open_symbols(m: &[u8], used: usize, index: &mut [u32], n: usize) -> OpenedMap
     requires { ⌜ (headerSize ≤ used) × (used ≤ mapLimit) × (used ≤ length (now m)) × (used + indexPage ≤ length (now index) * indexPage)
-        × (walked (indexRule (now m)) (now m) used ≡ Blocks n) × Placed indexPage (now index) × Table indexHead indexPage (now m) n (now index) ⌝ }
+        × (walked (indexRuleOf (familyOf (now m)) (now m)) (now m) used ≡ Blocks n) × Placed indexPage (now index) × Table indexHead indexPage (now m) n (now index) ⌝ }
     ensures { λ r. ⌜ (r ≡ openedAfter (now (m .entry)) used (Blocks n)) × Opens (now (m .entry)) used (now (index .exit)) r ⌝ }
 {
     fill(
         index,
         (used - 1) / IndexBlock::PAGE + 2,
-        IndexBlock::SIZE as u32,
+        block_size(u16_at(m, Header::VERSION)) as u32,
     );
     let symbols = judge_symbols(m, used, index, n);
     match symbols {
@@ -92,7 +102,7 @@ fn open_symbols(m: &[u8], used: usize, index: &mut [u32], n: usize) -> OpenedMap
 // 5, then 6.
 fn open_index(m: &[u8], used: usize, index: &mut [u32]) -> OpenedMap
     requires { ⌜ (headerSize ≤ used) × (used ≤ mapLimit) × (used ≤ length (now m)) × (used + indexPage ≤ length (now index) * indexPage) × Empty (now index) ⌝ }
-    ensures { λ r. ⌜ (r ≡ openedAfter (now (m .entry)) used (walked (indexRule (now (m .entry))) (now (m .entry)) used))
+    ensures { λ r. ⌜ (r ≡ openedAfter (now (m .entry)) used (walked (indexRuleOf (familyOf (now (m .entry))) (now (m .entry))) (now (m .entry)) used))
         × Opens (now (m .entry)) used (now (index .exit)) r ⌝ }
 {
     let none = [0u32; 2];
@@ -118,6 +128,29 @@ pub fn open_map(m: &[u8], used: usize, index: &mut [u32]) -> OpenedMap
     }
 }
 
+// 7, of a map of 9 to 11.
+fn examine_wide(m: &[u8], used: usize, index: &[u32], n: usize) -> ExaminedMap
+    requires { ⌜ OpenOf wide (now m) used n (now index) × (isWide (versionOf (now m)) ≡ true) ⌝ }
+    ensures { λ r. ⌜ r ≡ withFree (now (m .entry)) (unless (slotsJudged (now (m .entry)) used n) (Accepted n)) ⌝ }
+{
+    let j = judge_wide_slots(m, used, index, n);
+    match j {
+        JudgedMap::Bad { number, place } => ExaminedMap::Refused { number, place },
+        JudgedMap::Good => ExaminedMap::Wide { blocks: n },
+    }
+}
+
+// 7, by the layout of the map.
+fn examine_slots(m: &[u8], used: usize, index: &[u32], n: usize) -> ExaminedMap
+    requires { ⌜ Open (now m) used n (now index) ⌝ }
+    ensures { λ r. ⌜ r ≡ withFree (now (m .entry)) (unless (slotsJudged (now (m .entry)) used n) (Accepted n)) ⌝ }
+{
+    if is_wide(u16_at(m, Header::VERSION)) {
+        return examine_wide(m, used, index, n);
+    }
+    judge_slots(m, used, index, n)
+}
+
 // 7, of a map that was opened. It stands apart from the opening, whose tables are then gone.
 fn examine_opened(m: &[u8], used: usize, index: &[u32], o: OpenedMap) -> ExaminedMap
     requires { ⌜ Opens (now m) used (now index) o ⌝ }
@@ -125,7 +158,7 @@ fn examine_opened(m: &[u8], used: usize, index: &[u32], o: OpenedMap) -> Examine
 {
     match o {
         OpenedMap::Refused { number, place } => ExaminedMap::Refused { number, place },
-        OpenedMap::Blocks(n) => judge_slots(m, used, index, n),
+        OpenedMap::Blocks(n) => examine_slots(m, used, index, n),
     }
 }
 
@@ -143,12 +176,13 @@ pub fn examine(m: &[u8], used: usize, index: &mut [u32]) -> ExaminedMap
 // 5, 6 and 7 of a map whose header is good, with a lent table, empty before.
 fn judge_with(m: &[u8], used: usize, index: &mut [u32]) -> Verdict
     requires { ⌜ (headerSize ≤ used) × (used ≤ mapLimit) × (used ≤ length (now m)) × (used + indexPage ≤ length (now index) * indexPage) × Empty (now index) ⌝ }
-    ensures { λ r. ⌜ r ≡ afterIndex (now (m .entry)) used (walked (indexRule (now (m .entry))) (now (m .entry)) used) ⌝ }
+    ensures { λ r. ⌜ r ≡ afterIndex (now (m .entry)) used (walked (indexRuleOf (familyOf (now (m .entry))) (now (m .entry))) (now (m .entry)) used) ⌝ }
 {
     let o = open_index(m, used, index);
     let e = examine_opened(m, used, index, o);
     match e {
         ExaminedMap::Accepted { blocks, free: _ } => Verdict::Accepted { blocks },
+        ExaminedMap::Wide { blocks } => Verdict::Accepted { blocks },
         ExaminedMap::Refused { number, place } => Verdict::Refused { number, place },
     }
 }
@@ -156,7 +190,7 @@ fn judge_with(m: &[u8], used: usize, index: &mut [u32]) -> Verdict
 // 5, 6 and 7 of a map whose header is good, with a table as large as the map needs: none where it has neither index blocks nor symbol blocks.
 fn judge_chains(m: &[u8], used: usize) -> Verdict
     requires { ⌜ (headerSize ≤ used) × (used ≤ mapLimit) × (used ≤ length (now m)) ⌝ }
-    ensures { λ r. ⌜ r ≡ afterIndex (now (m .entry)) used (walked (indexRule (now (m .entry))) (now (m .entry)) used) ⌝ }
+    ensures { λ r. ⌜ r ≡ afterIndex (now (m .entry)) used (walked (indexRuleOf (familyOf (now (m .entry))) (now (m .entry))) (now (m .entry)) used) ⌝ }
 {
     if u32_at(m, Header::INDEX) == 0 {
         if u32_at(m, Header::SYMBOLS) == 0 {

@@ -1,4 +1,4 @@
-// 7: the live slots; and the first free one.
+// 7 in 6 to 8: the live slots; and the first free one.
 use super::ExaminedMap;
 use judge::bad_slot;
 use numbers::u16_at;
@@ -8,16 +8,18 @@ use records::LINK;
 use slots::IndexBlock;
 use slots::Slot;
 ghost use mathlib.Core.Path.{_≡_};
-ghost use mathlib.Core.Bool.{true};
+ghost use mathlib.Core.Bool.{false};
 ghost use Prim.Native.Nat.{_+_, _*_, _≤_, _<_};
 ghost use Rattle.numbers.specs.Below.{first};
 ghost use Rattle.records.specs.Sizes.{indexBlockSize, slotSize, blockCells};
 ghost use Rattle.chain.specs.Cells.{cellIn};
 ghost use Rattle.chain.specs.Tables.{endsMeet};
 ghost use Rattle.accept.specs.declared.Verdict.the-variants.{Accepted};
-ghost use Rattle.judge.specs.Indexed.{Indexed};
-ghost use Rattle.judge.specs.Judging.{badSlot};
-ghost use Rattle.accept.specs.Opens.{Open, firstFree, freeIn, withFree};
+ghost use Rattle.records.specs.Headers.{isWide};
+ghost use Rattle.chain.specs.Indexed.{Indexed};
+ghost use Rattle.judge.specs.Judging.{versionOf, badSlot};
+ghost use Rattle.judge.specs.Rules.{narrow};
+ghost use Rattle.accept.specs.Opens.{OpenOf, firstFree, freeIn, withFree};
 ghost use Rattle.accept.specs.Verdicts.{unless, slotsJudged};
 
 // What the slots of a block are judged to be: the first at fault, and the first free, 256 where there is none.
@@ -39,7 +41,7 @@ fn first_free(is: bool, free: usize, s: usize) -> usize
 
 // 7, of one index block: the slots in their order, up to the first at fault. The first free slot is told where none is at fault.
 fn judge_block_slots(m: &[u8], used: usize, version: u16, index: &[u32], block: usize) -> Seen
-    requires { ⌜ (block + indexBlockSize ≤ used) × Indexed (now m) used (now index) ⌝ }
+    requires { ⌜ (block + indexBlockSize ≤ used) × Indexed indexBlockSize (now m) used (now index) ⌝ }
     ensures { λ r. ⌜ (r .bad
         ≡ first (λ j. badSlot (endsMeet indexBlockSize (now (index .entry))) (now (m .entry)) used version (cellIn block slotSize j)) blockCells)
         × (r .bad ≡ blockCells → r .free ≡ first (freeIn (now (m .entry)) block) blockCells) ⌝ }
@@ -65,7 +67,7 @@ fn judge_block_slots(m: &[u8], used: usize, version: u16, index: &[u32], block: 
 
 // 7: the live slot at fault of lowest number. Where there is none, the first free slot, 256 times the blocks where none is free.
 pub fn judge_slots(m: &[u8], used: usize, index: &[u32], n: usize) -> ExaminedMap
-    requires { ⌜ Open (now m) used n (now index) ⌝ }
+    requires { ⌜ OpenOf narrow (now m) used n (now index) × (isWide (versionOf (now m)) ≡ false) ⌝ }
     ensures { λ r. ⌜ r ≡ withFree (now (m .entry)) (unless (slotsJudged (now (m .entry)) used n) (Accepted n)) ⌝ }
 {
     let version = u16_at(m, Header::VERSION);
