@@ -10,7 +10,7 @@ use Rattle.accept.specs.declared.JudgedMap.the-variants.{Good, Bad}
 use Rattle.accept.specs.declared.OpenedMap.{OpenedMap}
 use Rattle.accept.specs.declared.OpenedMap.the-variants as opened
 use Rattle.accept.specs.declared.Verdict.the-variants.{Accepted}
-use Rattle.judge.specs.Rules.{indexRule}
+use Rattle.judge.specs.Rules.{familyOf, indexRuleOf}
 use Rattle.accept.specs.Opens.{orOpened, openedAfter, openedOf, afterOpened, Open, Opens}
 use Rattle.accept.specs.Verdicts.{unless, headerJudged, symbolsJudged, slotsJudged, afterIndex, verdict, afterIndexOf}
 use Rattle.accept.proofs.Verdicts.{unless-tells, refused}
@@ -28,7 +28,7 @@ module _ (m : List ℕ) (used : ℕ) where
   pub verdict-opened : verdict m used ≡ afterOpened m used (openedOf m used)
   unfolding verdict openedOf
   verdict-opened =
-      let w = walked (indexRule m) m used in
+      let w = walked (indexRuleOf (familyOf m) m) m used in
       ap (unless (headerJudged m used)) (after-opened w) ∙ or-after (headerJudged m used) (openedAfter m used w)
 
   -- a map that is accepted is open, with its index blocks

@@ -19,11 +19,11 @@ use Rattle.accept.specs.declared.Verdict.{Verdict}
 use Rattle.accept.specs.declared.Verdict.the-variants.{Accepted, Refused}
 use Rattle.accept.specs.declared.JudgedMap.{JudgedMap}
 use Rattle.accept.specs.declared.JudgedMap.the-variants.{Good, Bad}
-use Rattle.judge.specs.Rules.{indexRule, symbolRule, touches, slotAt, entryAt}
-use Rattle.judge.specs.Judging.{versionOf, lengthGood, badSlot, badEntry}
+use Rattle.judge.specs.Rules.{Family, indexRuleOf, symbolRuleOf, touchesOf, slotAtOf, entryAt}
+use Rattle.judge.specs.Judging.{lengthGood}
 use Rattle.accept.proofs.Looking.{cells-good}
 use Rattle.judge.proofs.Telling.{and-true}
-use Rattle.accept.specs.Verdicts.{unless, firstOf, linkJudged, fieldsJudged, headerJudged, entriesJudged, symbolsJudged, slotsJudged, afterIndex, afterIndexOf, entriesJudgedOf, slotsJudgedOf, symbolsJudgedOf}
+use Rattle.accept.specs.Verdicts.{unless, firstOf, linkJudged, fieldsJudged, headerJudged, afterIndexOf, entriesJudgedOf, slotsJudgedOf, symbolsJudgedOf}
 
 -- ---- 1: the length
 
@@ -54,9 +54,9 @@ taken-of r m used (Blocks n) e = sym (walked-taken r m used e)
 taken-of r m used (Fault p n) e = sym (fault-tells r m used e .0)
 
 -- the walk answered w, and the entries of its blocks were judged to be j
-pub symbols-is : (m : List ℕ) (used n : ℕ) {w : Walk} {j : JudgedMap} → walked (symbolRule m n) m used ≡ w → j ≡ entriesJudged m used n (blocksIn w) → symbolsJudged m used n ≡ firstOf j (linkJudged w)
+pub symbols-is : (f : Family) (m : List ℕ) (used n : ℕ) {w : Walk} {j : JudgedMap} → walked (symbolRuleOf f m n) m used ≡ w → j ≡ entriesJudgedOf f m used n (blocksIn w) → symbolsJudgedOf f m used n ≡ firstOf j (linkJudged w)
 unfolding symbolsJudgedOf
-symbols-is m used n {w} e f = rw (e, ← taken-of (symbolRule m n) m used w e, ← f)
+symbols-is f m used n {w} e g = rw (e, ← taken-of (symbolRuleOf f m n) m used w e, ← g)
 
 pub first-good : (j : JudgedMap) → firstOf j Good ≡ j
 first-good Good = refl
@@ -70,15 +70,20 @@ no-blocks r m used l e =
     let b : block (r .head) m 0 ≡ 0 = sym (block-at (r .head) m 0 refl) ∙ e in
     walked-blocks r m used (taken-is r m used l (pass-none r m used) (stops-zero r m used 0 b)) b
 
-pub no-symbols : (m : List ℕ) (used n : ℕ) → u32At m symbolHead ≡ 0 → symbolsJudged m used n ≡ Good
+pub no-symbols : (f : Family) (m : List ℕ) (used n : ℕ) → u32At m symbolHead ≡ 0 → symbolsJudgedOf f m used n ≡ Good
 unfolding entriesJudgedOf
-no-symbols m used n e =
-    symbols-is m used n (no-blocks (symbolRule m n) m used (omega arith) e) (sym (cells-good 6 (λ i. badEntry (touches m n) m used (entryAt m i)) (entryAt m) (256 * 0) (λ i l. absurd (omega arith))))
+no-symbols f m used n e =
+    symbols-is f m used n (no-blocks (symbolRuleOf f m n) m used (omega arith) e)
+    (sym (cells-good 6 (λ i. f .entryAtFault (touchesOf f m n) m used (entryAt m i)) (entryAt m) (256 * 0) (λ i l. absurd (omega arith))))
 
-pub no-index : (m : List ℕ) (used : ℕ) → u32At m indexHead ≡ 0 → u32At m symbolHead ≡ 0 → afterIndex m used (walked (indexRule m) m used) ≡ Accepted 0
+pub no-index : (f : Family) → 0 < f .block → (m : List ℕ) (used : ℕ) → u32At m indexHead ≡ 0 → u32At m symbolHead ≡ 0 → afterIndexOf f m used (walked (indexRuleOf f m) m used) ≡ Accepted 0
 unfolding afterIndexOf slotsJudgedOf
-no-index m used e f =
-    rw (no-blocks (indexRule m) m used (omega arith) e, no-symbols m used 0 f, cells-good 7 (λ s. badSlot (touches m 0) m used (versionOf m) (slotAt m s)) (slotAt m) (256 * 0) (λ i l. absurd (omega arith)))
+no-index f l m used e g =
+    rw (
+      no-blocks (indexRuleOf f m) m used l e,
+      no-symbols f m used 0 g,
+      cells-good 7 (λ s. f .slotAtFault (touchesOf f m 0) m used (slotAtOf f m s)) (slotAtOf f m) (256 * 0) (λ i k. absurd (omega arith)),
+    )
 
 -- ---- accepted, and with how many index blocks
 
@@ -89,11 +94,11 @@ pub unless-tells : (j : JudgedMap) {v : Verdict} {n : ℕ} → unless j v ≡ Ac
 unless-tells Good e = (refl, e)
 unless-tells (Bad k p) e = absurd (refused e)
 
-pub after-tells : (m : List ℕ) (used : ℕ) (w : Walk) {n : ℕ} → afterIndex m used w ≡ Accepted n → (w ≡ Blocks n) × (symbolsJudged m used n ≡ Good) × (slotsJudged m used n ≡ Good)
+pub after-tells : (f : Family) (m : List ℕ) (used : ℕ) (w : Walk) {n : ℕ} → afterIndexOf f m used w ≡ Accepted n → (w ≡ Blocks n) × (symbolsJudgedOf f m used n ≡ Good) × (slotsJudgedOf f m used n ≡ Good)
 unfolding afterIndexOf
-after-tells m used (Blocks k) {n} e =
-    let f = unless-tells (symbolsJudged m used k) e in
-    let g = unless-tells (slotsJudged m used k) (f .1) in
+after-tells f m used (Blocks k) {n} e =
+    let a = unless-tells (symbolsJudgedOf f m used k) e in
+    let g = unless-tells (slotsJudgedOf f m used k) (a .1) in
     let q : k ≡ n = cc in
-    (ap Blocks q, rw q at (f .0), rw q at (g .0))
-after-tells m used (Fault p k) e = absurd (refused e)
+    (ap Blocks q, rw q at (a .0), rw q at (g .0))
+after-tells f m used (Fault p k) e = absurd (refused e)

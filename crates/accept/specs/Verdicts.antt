@@ -12,9 +12,10 @@
 --     slotsJudged m used n      7: the live slot at fault of lowest number
 --     afterIndex, verdict       5: the link of an index block, at the place where the link is stored; then 6, then 7
 --     Checked m used v          the check's result: its answer v is the verdict
+--     Editable m used n         the map is accepted and of 6 to 8: edits take no other
 --     entriesJudgedOf f, symbolsJudgedOf f, slotsJudgedOf f, afterIndexOf f     the same of a layout (`judge`, Rules); those without one are of the map's own
 use Prim.Native.Nat.{ℕ, _*_}
-use mathlib.Core.Bool.{Bool, cond}
+use mathlib.Core.Bool.{Bool, false, cond}
 use mathlib.Core.Path.{_≡_}
 use mathlib.Core.List.{List}
 use lib.Dec.{ltb, eqb}
@@ -29,7 +30,7 @@ use Rattle.accept.specs.declared.Verdict.the-variants.{Accepted, Refused
 use Rattle.accept.specs.declared.JudgedMap.{JudgedMap}
 use Rattle.accept.specs.declared.JudgedMap.the-variants.{Good, Bad}
 use Rattle.judge.specs.Rules.{Family, familyOf, indexRuleOf, symbolRuleOf, touchesOf, slotAtOf, entryAt}
-use Rattle.judge.specs.Judging.{lengthGood, partGood}
+use Rattle.judge.specs.Judging.{versionOf, lengthGood, partGood}
 use Rattle.records.specs.Sizes.{blockCells}
 
 abbrev pub numberOf : Verdict → ℕ
@@ -96,3 +97,6 @@ verdict m used = unless (headerJudged m used) (afterIndex m used (walked (indexR
 
 abbrev pub Checked : List ℕ → ℕ → Verdict → Type 0
 Checked m used v = v ≡ verdict m used
+
+abbrev pub Editable : List ℕ → ℕ → ℕ → Type 0
+Editable m used n = (verdict m used ≡ Accepted n) × (isWide (versionOf m) ≡ false)
