@@ -87,11 +87,8 @@ fn open_symbols(m: &[u8], used: usize, index: &mut [u32], n: usize) -> OpenedMap
         × (walked (indexRuleOf (familyOf (now m)) (now m)) (now m) used ≡ Blocks n) × Placed indexPage (now index) × Table indexHead indexPage (now m) n (now index) ⌝ }
     ensures { λ r. ⌜ (r ≡ openedAfter (now (m .entry)) used (Blocks n)) × Opens (now (m .entry)) used (now (index .exit)) r ⌝ }
 {
-    fill(
-        index,
-        (used - 1) / IndexBlock::PAGE + 2,
-        block_size(u16_at(m, Header::VERSION)) as u32,
-    );
+    let block = block_size(u16_at(m, Header::VERSION));
+    fill(index, (used - 1) / IndexBlock::PAGE + 2, block as u32);
     let symbols = judge_symbols(m, used, index, n);
     match symbols {
         JudgedMap::Bad { number, place } => OpenedMap::Refused { number, place },

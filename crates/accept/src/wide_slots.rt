@@ -5,7 +5,7 @@ use records::Header;
 use records::LINK;
 use slots::IndexBlock;
 use wide::WideSlot;
-use wide::wide_slot_good;
+use wide::wide_bad_slot;
 ghost use mathlib.Core.Path.{_≡_};
 ghost use Prim.Native.Nat.{_+_, _*_, _≤_, _<_};
 ghost use Rattle.records.specs.Sizes.{wideBlockSize, wideSlotSize, blockCells};
@@ -28,13 +28,11 @@ fn judge_wide_block(m: &[u8], used: usize, index: &[u32], block: usize) -> Judge
     let mut j = 0usize;
     while j < IndexBlock::SLOTS {
         let t = WideSlot::at(m, at);
-        if t.is_live() {
-            if !wide_slot_good(m, used, index, t) {
-                return JudgedMap::Bad {
-                    number: 7,
-                    place: at as u32,
-                };
-            }
+        if wide_bad_slot(m, used, index, t) {
+            return JudgedMap::Bad {
+                number: 7,
+                place: at as u32,
+            };
         }
         at += WideSlot::SIZE;
         j += 1;

@@ -12,7 +12,7 @@ ghost use Rattle.numbers.specs.Bytes.{u32At};
 ghost use Rattle.records.specs.Sizes.{wideBlockSize, wideSlotSize, wideHeaderSize};
 ghost use Rattle.chain.specs.Tables.{endsMeet};
 ghost use Rattle.chain.specs.Indexed.{Indexed};
-ghost use Rattle.wide.specs.Slots.{wideSlotOf, wideLive, wideObjectOf, wideTypeGood, wideBytes, wideObjectGood, wideSlotGood};
+ghost use Rattle.wide.specs.Slots.{wideSlotOf, wideLive, wideObjectOf, wideTypeGood, wideBytes, wideObjectGood, wideSlotGood, wideBadSlot};
 ghost use Rattle.wide.specs.Symbols.{wideSymbolGood, wideBadEntry};
 
 // A slot of 9 to 11. Coordinates are raw; Sym is kept as its 32 bits.
@@ -149,7 +149,7 @@ fn wide_object_good(m: &[u8], used: usize, index: &[u32], t: WideSlot) -> bool
 }
 
 // Whether a slot that has a Len would be good as a live one.
-pub fn wide_slot_good(m: &[u8], used: usize, index: &[u32], t: WideSlot) -> bool
+fn wide_slot_good(m: &[u8], used: usize, index: &[u32], t: WideSlot) -> bool
     requires { ⌜ Indexed wideBlockSize (now m) used (now index) × (t .len ≡ 0 → ⊥) ⌝ }
     ensures { λ r. ⌜ r ≡ wideSlotGood (endsMeet wideBlockSize (now (index .entry))) (now (m .entry)) used t ⌝ }
 {
@@ -160,6 +160,18 @@ pub fn wide_slot_good(m: &[u8], used: usize, index: &[u32], t: WideSlot) -> bool
         return false;
     }
     at_most(t.bottom, t.top)
+}
+
+// Whether a slot is live and not good.
+pub fn wide_bad_slot(m: &[u8], used: usize, index: &[u32], t: WideSlot) -> bool
+    requires { ⌜ Indexed wideBlockSize (now m) used (now index) ⌝ }
+    ensures { λ r. ⌜ ((at : ℕ) → t ≡ wideSlotOf (now (m .entry)) at
+        → r ≡ wideBadSlot (endsMeet wideBlockSize (now (index .entry))) (now (m .entry)) used at) ⌝ }
+{
+    if !t.is_live() {
+        return false;
+    }
+    !wide_slot_good(m, used, index, t)
 }
 
 // A symbol record of 9 to 11 has at least so many bytes.

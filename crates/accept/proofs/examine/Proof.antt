@@ -17,7 +17,8 @@ returns c =
     let o = k .open-map in (
       c .examine-opened .ensures ∙ ap (withFree m) (ap (afterOpened m (a .used)) (o .ensures .0) ∙ sym (verdict-opened m (a .used))),
       λ n f e.
-          let g = accepted-open m (a .used) (o .last .1 .1 .0) (o .result) (o .ensures .1) (accepted-free m (afterOpened m (a .used) (o .result)) (c .examine-opened .ensures) e .0) in
+          let v = accepted-free m (afterOpened m (a .used) (o .result)) (c .examine-opened .ensures) e in
+          let g = rw (v .1) at (accepted-open m (a .used) (o .last .1 .1 .0) (o .result) (o .ensures .1) (v .0)) in
           (g .indexed .filled, g .table),
     )
 

@@ -7,8 +7,8 @@ use Rattle.accept.specs.Opens.{afterOpened, Opens, withFree}
 use Rattle.accept.proofs.examine_opened.Statement.{statement}
 use Rattle.accept.proofs.examine_opened.Tie as tie
 
-judge-slots-requires : tie.Need-judge-slots-requires
-judge-slots-requires c κs =
+examine-slots-requires : tie.Need-examine-slots-requires
+examine-slots-requires c κs =
     let s = c .before .before .before .before .before in
     subst (Opens (now (s .args .m)) (s .args .used) (now (s .args .index))) (c .before .o2 .given .1) (s .pre)
 
@@ -20,7 +20,7 @@ returns c =
 returns-2 : tie.Need-returns-2
 returns-2 c =
     let a = c .before .before .before .before .before .before .args in
-    c .judge-slots .ensures ∙ sym (ap (λ (x : OpenedMap). withFree (now (a .m)) (afterOpened (now (a .m)) (a .used) x)) (c .before .before .o2 .given .1))
+    c .examine-slots .ensures ∙ sym (ap (λ (x : OpenedMap). withFree (now (a .m)) (afterOpened (now (a .m)) (a .used) x)) (c .before .before .o2 .given .1))
 
 pub examine-opened-spec : {M : Type 1} → statement M
-examine-opened-spec = tie.close (tie.spec (λ c. search needs) (λ c. search needs) judge-slots-requires returns returns-2)
+examine-opened-spec = tie.close (tie.spec (λ c. search needs) (λ c. search needs) examine-slots-requires returns returns-2)

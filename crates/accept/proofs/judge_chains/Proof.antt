@@ -4,6 +4,10 @@ use mathlib.Core.Path.{sym, _∙_}
 use borrow.Author.Needs.{needs}
 use denote.Ref.{now}
 use Rattle.chain.proofs.Tables.{zeros}
+use Rattle.records.specs.Headers.{isWide}
+use Rattle.judge.specs.Judging.{versionOf}
+use Rattle.judge.specs.Rules.{familyOf}
+use Rattle.judge.proofs.Rules.{sized}
 use Rattle.accept.proofs.Verdicts.{no-index}
 use Rattle.accept.proofs.judge_chains.Statement.{statement}
 use Rattle.accept.proofs.judge_chains.Tie as tie
@@ -11,7 +15,8 @@ use Rattle.accept.proofs.judge_chains.Tie as tie
 returns : tie.Need-returns
 returns c =
     let s = c .before .before .before .before .before in
-    sym (no-index (now (s .args .m)) (s .args .used) (sym (c .before .before .before .u32-at .ensures) ∙ c .before .before .if1 .taken) (sym (c .before .u32-at2 .ensures) ∙ c .if2 .taken))
+    let m = now (s .args .m) in
+    sym (no-index (familyOf m) (omega (arith, sized (isWide (versionOf m)) .least)) m (s .args .used) (sym (c .before .before .before .u32-at .ensures) ∙ c .before .before .if1 .taken) (sym (c .before .u32-at2 .ensures) ∙ c .if2 .taken))
 
 small : tie.Need-judge-with-requires
 small c κs =

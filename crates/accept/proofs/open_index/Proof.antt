@@ -12,7 +12,7 @@ use Rattle.chain.specs.Chains.{walked, taken}
 use Rattle.chain.specs.Tables.{Placed, Table}
 use Rattle.chain.proofs.Tables.{zeros}
 use Rattle.chain.proofs.Walking.{table-of}
-use Rattle.judge.specs.Rules.{indexRule}
+use Rattle.judge.specs.Rules.{familyOf, indexRuleOf}
 use Rattle.accept.specs.Opens.{openedAfter}
 use Rattle.judge.proofs.Rules.{index-rule, index-ready, walk-by, fault-fits}
 use Rattle.accept.proofs.open_index.Statement.{statement}
@@ -43,16 +43,16 @@ walk-chain-requires c κs =
     )
 
 -- the walk's answer and its table, by the rule
-walk : (c : tie.After-walk-chain) → let a = start c .args in (walked (indexRule (now (a .m))) (now (a .m)) (a .used) ≡ c .walk-chain .result) × Placed indexPage (c .walk-chain .last .1 .1 .1 .1 .0) × Table indexHead indexPage (now (a .m)) (taken (indexRule (now (a .m))) (now (a .m)) (a .used)) (c .walk-chain .last .1 .1 .1 .1 .0)
+walk : (c : tie.After-walk-chain) → let a = start c .args in (walked (indexRuleOf (familyOf (now (a .m))) (now (a .m))) (now (a .m)) (a .used) ≡ c .walk-chain .result) × Placed indexPage (c .walk-chain .last .1 .1 .1 .1 .0) × Table indexHead indexPage (now (a .m)) (taken (indexRuleOf (familyOf (now (a .m))) (now (a .m))) (now (a .m)) (a .used)) (c .walk-chain .last .1 .1 .1 .1 .0)
 walk c =
     let k = c .before .before .before in
     let a = start c .args in
     walk-by (a .used) (index-rule (now (a .m)) (k .before .of .ensures) (k .index-kind .ensures) (replicate 2 0) (zeros 2)) (ap (λ (x : Kind). x .page) (k .index-kind .ensures)) (c .walk-chain .ensures)
 
-whole : (c : tie.After-w) → let a = start-whole c .args in walked (indexRule (now (a .m))) (now (a .m)) (a .used) ≡ Blocks (c .w .given .0 .0)
+whole : (c : tie.After-w) → let a = start-whole c .args in walked (indexRuleOf (familyOf (now (a .m))) (now (a .m))) (now (a .m)) (a .used) ≡ Blocks (c .w .given .0 .0)
 whole c = walk (c .before .before .before .before) .0 ∙ c .w .given .1
 
-fault : (c : tie.After-w2) → let a = start-fault c .args in walked (indexRule (now (a .m))) (now (a .m)) (a .used) ≡ Fault (c .w2 .given .0 .0) (c .w2 .given .0 .1 .0)
+fault : (c : tie.After-w2) → let a = start-fault c .args in walked (indexRuleOf (familyOf (now (a .m))) (now (a .m))) (now (a .m)) (a .used) ≡ Fault (c .w2 .given .0 .0) (c .w2 .given .0 .1 .0)
 fault c = walk (c .before .before .before .before) .0 ∙ c .w2 .given .1
 
 open-symbols-requires : tie.Need-open-symbols-requires
@@ -60,14 +60,14 @@ open-symbols-requires c κs =
     let w = c .before .before in
     let k = w .before .before .before .before in
     let s = start k in
-    (s .pre .0, s .pre .1, s .pre .2, omega (arith, s .pre .3, k .walk-chain .kept .1 .1 .1 .1 .0), whole w, walk k .1, table-of (indexRule (now (s .args .m))) (now (s .args .m)) (s .args .used) (whole w) (walk k .2))
+    (s .pre .0, s .pre .1, s .pre .2, omega (arith, s .pre .3, k .walk-chain .kept .1 .1 .1 .1 .0), whole w, walk k .1, table-of (indexRuleOf (familyOf (now (s .args .m))) (now (s .args .m))) (now (s .args .m)) (s .args .used) (whole w) (walk k .2))
 
 cast-t17 : tie.Need-cast-t17
 cast-t17 c =
     let w = c .before in
     let b = mapped (w .before .before .before .before) in
     let a = b .before .args in
-    omega (arith, fault-fits (indexRule (now (a .m))) (now (a .m)) (a .used) (λ i. b .shared-slice-known .given i .fits) (omega arith) (fault w))
+    omega (arith, fault-fits (indexRuleOf (familyOf (now (a .m))) (now (a .m))) (now (a .m)) (a .used) (λ i. b .shared-slice-known .given i .fits) (omega arith) (fault w))
 
 returns : tie.Need-returns
 returns c =

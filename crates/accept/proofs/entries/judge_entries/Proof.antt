@@ -1,30 +1,36 @@
 -- `accept::entries::judge_entries` meets its contract, by the laws of the look along the blocks of a chain. The measure is what is left of the blocks. Assumes nothing.
 use native.Mathlib.Omega.{arith}
-use Prim.Native.Nat.{_-_}
+use Prim.Native.Nat.{ℕ, _-_}
+use mathlib.Core.Bool.{Bool}
+use mathlib.Core.List.{List}
 use mathlib.Core.Path.{_≡_, sym, _∙_}
 use denote.Ref.{now}
 use borrow.Author.Needs.{needs}
 use Rattle.records.specs.Sizes.{entrySize}
 use Rattle.chain.specs.Cells.{cellIn}
 use Rattle.chain.proofs.Chains.{taken-pass}
-use Rattle.judge.specs.Rules.{symbolRule, touches}
-use Rattle.judge.specs.Judging.{badEntry}
+use Rattle.judge.specs.Rules.{familyOf, symbolRuleOf, touchesOf}
 use Rattle.accept.specs.Verdicts.{cellsJudged, entriesJudgedOf}
 use Rattle.judge.proofs.Judging.{same-touch}
 use Rattle.accept.proofs.Looking.{Along, along-start, along-inside, along-on, along-bad, along-good}
 use Rattle.accept.proofs.entries.judge_entries.Statement.{statement}
 use Rattle.accept.proofs.entries.judge_entries.Tie as tie
 
+-- whether the entry at a place is at fault, by the chain in the place of the table
+abbrev at-fault : List ℕ → ℕ → ℕ → ℕ → Bool
+at-fault m used n = familyOf m .entryAtFault (touchesOf (familyOf m) m n) m used
+
 abbrev Inv-loop : tie.InvT-loop
-Inv-loop m used index n k at₀ i₀ at i = Along (symbolRule m n) m used entrySize k (badEntry (touches m n) m used) at i
+Inv-loop m used index n k version at₀ i₀ at i = Along (symbolRuleOf (familyOf m) m n) m used entrySize k (at-fault m used n) at i
 
 abbrev μ-loop : tie.MeasureT-loop
-μ-loop m used index n k at₀ i₀ at i = k - i
+μ-loop m used index n k version at₀ i₀ at i = k - i
 
 loop-holds : tie.Need-loop-holds Inv-loop μ-loop
 loop-holds c =
-    let s = c .before .before in
-    along-start (rw (s .pre .3) (taken-pass (symbolRule (now (s .args .m)) (s .args .n)) (now (s .args .m)) (s .args .used))) (omega arith)
+    let s = c .before .before .before in
+    let m = now (s .args .m) in
+    along-start (rw (s .pre .3) (taken-pass (symbolRuleOf (familyOf m) m (s .args .n)) m (s .args .used))) (omega arith)
 
 u32-at-requires : tie.Need-u32-at-requires Inv-loop μ-loop
 u32-at-requires c κs = omega (arith, c .before .loop .inv .room)
@@ -32,12 +38,15 @@ u32-at-requires c κs = omega (arith, c .before .loop .inv .room)
 judge-block-entries-requires : tie.Need-judge-block-entries-requires Inv-loop μ-loop
 judge-block-entries-requires c κs =
     let t = c .before in
-    let pre = t .before .before .before .before .pre in
-    (along-inside (t .before .loop .inv) (t .loop-test .taken) (c .u32-at .ensures), pre .1)
+    let v = t .before .before in
+    (along-inside (t .before .loop .inv) (t .loop-test .taken) (c .u32-at .ensures), rw (v .u16-at .ensures) (v .before .before .before .pre .1))
 
 -- what the entries of this turn's block are judged to be, by the chain in the place of the table
-told : (c : tie.After-judge-block-entries Inv-loop μ-loop) → let a = c .before .before .before .before .before .before .args in c .judge-block-entries .result ≡ cellsJudged 6 (λ e. badEntry (touches (now (a .m)) (a .n)) (now (a .m)) (a .used) (cellIn (c .before .u32-at .result) entrySize e)) (cellIn (c .before .u32-at .result) entrySize) 256
-told c = rw (← same-touch (c .before .before .before .before .before .before .pre .2)) (c .judge-block-entries .ensures)
+told : (c : tie.After-judge-block-entries Inv-loop μ-loop) → let a = c .before .before .before .before .before .before .before .args in c .judge-block-entries .result ≡ cellsJudged 6 (λ e. at-fault (now (a .m)) (a .used) (a .n) (cellIn (c .before .u32-at .result) entrySize e)) (cellIn (c .before .u32-at .result) entrySize) 256
+told c =
+    let v = c .before .before .before .before in
+    let s = v .before .before .before in
+    rw (at-fault, ← same-touch (familyOf (now (s .args .m))) (s .pre .2)) (rw (v .u16-at .ensures) at (c .judge-block-entries .ensures))
 
 returns : tie.Need-returns Inv-loop μ-loop
 unfolding entriesJudgedOf
@@ -62,6 +71,7 @@ judge-entries-spec =
     (tie.spec
     Inv-loop
     μ-loop
+    (λ c κs. omega arith)
     loop-holds
     u32-at-requires
     (λ c. search needs)

@@ -1,4 +1,5 @@
 -- `accept::fields::judge_fields` meets its contract: each test that fails settles the answer. Assumes nothing.
+use mathlib.Core.Path.{sym, _∙_}
 use borrow.Author.Tests.{eq-eqb, ne-eqb}
 use Rattle.accept.specs.Verdicts.{fieldsJudged}
 use Rattle.judge.proofs.Judging.{fails, passes}
@@ -12,27 +13,20 @@ returns c = rw (ne-eqb _ _ (c .if1 .taken))
 
 returns-2 : tie.Need-returns-2
 unfolding fieldsJudged
-returns-2 c = rw (eq-eqb _ _ (c .before .before .if1 .left), fails (c .before .pair-good .ensures) (c .if2 .taken))
+returns-2 c = rw (eq-eqb _ _ (c .before .before .if1 .left), fails (c .before .version-good .ensures) (c .if2 .taken))
 
 returns-3 : tie.Need-returns-3
 unfolding fieldsJudged
 returns-3 c =
-    let k = c .before .before .before in
-    rw (eq-eqb _ _ (k .before .before .if1 .left), passes (k .before .pair-good .ensures) (k .if2 .left), fails (c .before .part-good .ensures) (c .if3 .taken))
+    let k = c .before .before in
+    rw (eq-eqb _ _ (k .before .before .if1 .left), passes (k .before .version-good .ensures) (k .if2 .left), sym (c .before .is-wide .ensures) ∙ c .if3 .taken)
 
 returns-4 : tie.Need-returns-4
 unfolding fieldsJudged
 returns-4 c =
-    let l = c .before .before .before in
-    let k = l .before .before .before in
-    rw (eq-eqb _ _ (k .before .before .if1 .left), passes (k .before .pair-good .ensures) (k .if2 .left), passes (l .before .part-good .ensures) (l .if3 .left), fails (c .before .part-good2 .ensures) (c .if4 .taken))
-
-returns-5 : tie.Need-returns-5
-unfolding fieldsJudged
-returns-5 c =
-    let l = c .before .before .before in
-    let k = l .before .before .before in
-    rw (eq-eqb _ _ (k .before .before .if1 .left), passes (k .before .pair-good .ensures) (k .if2 .left), passes (l .before .part-good .ensures) (l .if3 .left), passes (c .before .part-good2 .ensures) (c .if4 .left))
+    let l = c .before in
+    let k = l .before .before in
+    rw (eq-eqb _ _ (k .before .before .if1 .left), passes (k .before .version-good .ensures) (k .if2 .left), sym (l .before .is-wide .ensures) ∙ l .if3 .left) (c .judge-parts .ensures)
 
 pub judge-fields-spec : {M : Type 1} → statement M
 judge-fields-spec =
@@ -42,9 +36,6 @@ judge-fields-spec =
     (λ c κs. search needs)
     returns-2
     (λ c κs. search needs)
-    (λ c. search needs)
     returns-3
     (λ c κs. search needs)
-    (λ c. search needs)
-    returns-4
-    returns-5)
+    returns-4)

@@ -17,7 +17,7 @@ use Rattle.chain.specs.Chains.{place}
 use Rattle.chain.specs.Cells.{cellIn}
 use Rattle.chain.proofs.Chains.{walked-pass}
 use Rattle.accept.specs.declared.ExaminedMap.the-variants.{Accepted}
-use Rattle.judge.specs.Rules.{indexRule, touches}
+use Rattle.judge.specs.Rules.{narrow, indexRule, touches}
 use Rattle.judge.specs.Judging.{versionOf, badSlot, noLen}
 use Rattle.accept.specs.Slots.{slotIn, freeSlot}
 use Rattle.accept.specs.Opens.{firstFree, freeIn}
@@ -53,7 +53,7 @@ loop-holds : tie.Need-loop-holds Inv-loop μ-loop
 unfolding place
 loop-holds c =
     let s = c .before .before .before .before in (
-      along-start (walked-pass (indexRule (now (s .args .m))) (now (s .args .m)) (s .args .used) (s .pre .index)) (omega arith),
+      along-start (walked-pass (indexRule (now (s .args .m))) (now (s .args .m)) (s .args .used) (s .pre .0 .index)) (omega arith),
       c .u32-at .ensures,
       sym (or-none (is-free (now (s .args .m))) (256 * s .args .n)),
     )
@@ -65,14 +65,14 @@ inside c = along-inside (c .before .loop .inv .0) (c .loop-test .taken) (c .befo
 judge-block-slots-requires : tie.Need-judge-block-slots-requires Inv-loop μ-loop
 judge-block-slots-requires c κs =
     let pre = start c .pre in
-    (inside c, pre .indexed)
+    (inside c, pre .0 .indexed)
 
 -- the first slot of the block at fault, by the chain in the place of the table
 bad : (c : tie.After-judge-block-slots Inv-loop μ-loop) → let l = c .before .before in let a = l .before .before .before .before .before .args in First (λ j. at-fault (now (a .m)) (a .used) (a .n) (cellIn (l .loop .at) slotSize j)) 256 (c .judge-block-slots .result .bad)
 bad c =
     let v = c .before .before .before .before in
     let a = v .before .before .before .args in
-    rw (c .judge-block-slots .ensures .0, same-touch (v .before .before .before .pre .table), v .u16-at .ensures) (first-law (λ j. at-fault (now (a .m)) (a .used) (a .n) (cellIn (c .before .before .loop .at) slotSize j)) 256)
+    rw (c .judge-block-slots .ensures .0, same-touch narrow (v .before .before .before .pre .0 .table), v .u16-at .ensures) (first-law (λ j. at-fault (now (a .m)) (a .used) (a .n) (cellIn (c .before .before .loop .at) slotSize j)) 256)
 
 -- the first free slot of the block, where none is at fault
 free : (c : tie.After-judge-block-slots Inv-loop μ-loop) → 256 ≤ c .judge-block-slots .result .bad → let l = c .before .before in First (freeIn (now (start (c .before) .args .m)) (l .loop .at)) 256 (c .judge-block-slots .result .free)
@@ -86,7 +86,7 @@ stands c = omega (arith, c .slot .ensures, c .before .new .ensures)
 fits-32 : tie.Need-cast-t14 Inv-loop μ-loop
 fits-32 c =
     let t = c .before .before .before .before .before in
-    omega (arith, c .slot .ensures, c .before .new .ensures, c .before .before .if1 .taken, inside t, start t .pre .indexed .limit)
+    omega (arith, c .slot .ensures, c .before .new .ensures, c .before .before .if1 .taken, inside t, start t .pre .0 .indexed .limit)
 
 returns : tie.Need-returns Inv-loop μ-loop
 unfolding slotsJudgedOf
@@ -95,7 +95,7 @@ returns c =
     let l = u .before .before .loop in
     let a = start (u .before) .args in
     let fault = cells-bad 7 (λ j. at-fault (now (a .m)) (a .used) (a .n) (cellIn (l .at) slotSize j)) (cellIn (l .at) slotSize) 256 (bad u) (c .before .before .if1 .taken) in
-    rw (← along-bad (l .inv .0) (u .before .loop-test .taken) (l .inv .1) 7 fault, stands c)
+    rw (start (u .before) .pre .1, ← along-bad (l .inv .0) (u .before .loop-test .taken) (l .inv .1) 7 fault, stands c)
 
 add-first-free : tie.Need-add-first-free Inv-loop μ-loop
 add-first-free c =
@@ -127,14 +127,15 @@ returns-2 c =
     let a = c .before .before .before .before .before .before .args in
     let v = c .before .loop .inv in
     let e : c .before .loop .k ≡ a .n = omega (arith, v .0 .upto, c .loop-test .left) in
-    rw (← along-good (v .0) 7 (c .loop-test .left))
-    (ap (Accepted (a .n)) (v .2 ∙ ap (λ (x : ℕ). firstOr (is-free (now (a .m))) (256 * x) (256 * a .n)) e ∙ or-all (is-free (now (a .m))) (256 * a .n)))
+    let narrowly = c .before .before .before .before .before .before .pre .1 in
+    rw (narrowly, ← along-good (v .0) 7 (c .loop-test .left))
+    (rw narrowly (ap (Accepted (a .n)) (v .2 ∙ ap (λ (x : ℕ). firstOr (is-free (now (a .m))) (256 * x) (256 * a .n)) e ∙ or-all (is-free (now (a .m))) (256 * a .n))))
 
 -- there are no more blocks than bytes
 few : (c : tie.After-u32-at Inv-loop μ-loop) → c .before .before .before .before .args .n ≤ c .before .before .before .before .args .used
 few c =
     let s = c .before .before .before .before in
-    pass-few (walked-pass (indexRule (now (s .args .m))) (now (s .args .m)) (s .args .used) (s .pre .index)) (omega arith)
+    pass-few (walked-pass (indexRule (now (s .args .m))) (now (s .args .m)) (s .args .used) (s .pre .0 .index)) (omega arith)
 
 pub judge-slots-spec : {M : Type 1} → statement M
 judge-slots-spec =
@@ -149,13 +150,13 @@ judge-slots-spec =
     loop-holds
     judge-block-slots-requires
     (λ c κs. search needs)
-    (λ c κs. let t = c .before .before .before .before in (omega (arith, c .new .ensures, inside t, start t .pre .indexed .limit), c .before .if1 .taken))
+    (λ c κs. let t = c .before .before .before .before in (omega (arith, c .new .ensures, inside t, start t .pre .0 .indexed .limit), c .before .if1 .taken))
     fits-32
     returns
     (λ c. omega (arith, pass-few (c .before .before .before .before .before .loop .inv .0 .pass) (omega arith)))
     add-first-free
     (λ c κs. search needs)
-    (λ c κs. let t = c .before .before .before .before .before .before in omega (arith, inside t, start t .pre .indexed .room))
+    (λ c κs. let t = c .before .before .before .before .before .before in omega (arith, inside t, start t .pre .0 .indexed .room))
     (λ c. search needs)
     (λ c. omega arith)
     (λ c. omega arith)
