@@ -81,7 +81,7 @@ fields-tell m used e =
     (a .0, b .0, c .0, c .1)
 
 -- a map of 6 to 8: its version pair, setup and info
-narrow-tells : (m : List ℕ) (used : ℕ) → isWide (versionOf m) ≡ false → headerJudged m used ≡ Good
+pub narrow-tells : (m : List ℕ) (used : ℕ) → isWide (versionOf m) ≡ false → headerJudged m used ≡ Good
     → (pairGood (u16At m 4) (u16At m 2) ≡ true) × (partGood used (partOf m setupAt) ≡ true) × (partGood used (partOf m infoAt) ≡ true)
 unfolding partsJudged headerOf versionGood
 narrow-tells m used w e =

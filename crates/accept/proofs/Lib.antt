@@ -5,7 +5,8 @@
 --     Opens        opening a map is the check up to 6
 --     Slots        the first free slot
 --     Accepting    what an accepted map tells, and what shows one
---     Meets        an accepted map meets document 01, and a map that meets it is accepted
+--     Listed       ranges, parts and chains by the conditions for a map, and by the tests
+--     Meets        an accepted map meets the conditions of specs/Meets, and a map that meets them is accepted
 --     Contracts    what the contracts of the public calls say, and that it allows one answer
 pub mod Firsts
 pub mod Looking
@@ -13,5 +14,6 @@ pub mod Slots
 pub mod Verdicts
 pub mod Opens
 pub mod Accepting
+pub mod Listed
 pub mod Meets
 pub mod Contracts

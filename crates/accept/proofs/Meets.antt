@@ -1,259 +1,292 @@
--- The check answers accepted exactly when document 01's conditions hold. Assumes nothing.
-use Prim.Native.Nat.{ℕ, _+_, _<_, min, max}
-use mathlib.Core.Bool.{Bool, true, false, _||_}
-use mathlib.Core.Path.{_≡_, refl, sym, _∙_}
+-- The check answers accepted exactly when the conditions for a map hold. What both layouts share is proved once, for a layout whose tests agree with its
+-- conditions (`Agree`); then it is shown that each of the two agrees. Assumes nothing.
+use Prim.Native.Nat.{ℕ, _+_, _*_, _≤_, _<_}
+use mathlib.Core.Bool.{Bool, true, false, not, cond, _&&_}
+use mathlib.Core.Path.{_≡_, refl, sym}
+use mathlib.Core.Logic.{inl, inr, _↔_}
 use mathlib.Core.List.{List}
 use native.Mathlib.Omega.{arith}
-use lib.Dec.{eqb, ltb}
+use lib.Dec.{eqb}
 use lib.ListN.{length, getD, drop}
-use borrow.Author.Tests.{ltb-true, eqb-true, eq-eqb, ne-eqb}
+use lib.Signed.{leZ}
+use borrow.Author.Tests.{eqb-true, eqb-false, eq-eqb, ne-eqb, not-true, not-false}
 use Rattle.numbers.specs.Bytes.{u16At, u32At}
+use Rattle.numbers.specs.Coordinates.{valueOf}
 use Rattle.numbers.specs.Ranges.{share}
-use Rattle.numbers.proofs.Below.{never, any-none, any-false, or-left, or-snd}
-use Rattle.numbers.proofs.Ranges.{share-no, share-comm, within-true, within-is}
+use Rattle.numbers.proofs.Below.{never, or-left, or-snd}
 use Rattle.records.specs.declared.Part.{Part}
+use Rattle.records.specs.Sizes.{headerSize, mapLimit, indexBlockSize, wideBlockSize, entrySize, symbolBlockSize}
+use Rattle.records.specs.Headers.{partOf, setupAt, infoAt, indexHead, symbolHead, isWide}
+use Rattle.records.specs.Symbols.{sizeGood}
 use Rattle.slots.specs.declared.Slot.{Slot}
-use Rattle.records.specs.Sizes.{indexBlockSize, slotSize, entrySize}
-use Rattle.records.specs.Headers.{partOf, setupAt, infoAt, indexHead, symbolHead}
-use Rattle.slots.specs.Slots.{slotOf, stateOf, pairsOf, bytesIn}
+use Rattle.slots.specs.declared.State.{State}
+use Rattle.slots.specs.declared.State.the-variants.{Free, Erased, Live}
+use Rattle.slots.specs.Slots.{slotOf, stateOf, sameState, pairsOf, bytesIn}
 use Rattle.slots.specs.Objects.{objectOf, typeGood}
-use Rattle.chain.specs.declared.Walk.the-variants.{Blocks}
-use Rattle.chain.specs.Chains.{Rule, block, meetsBlock, inside, walked, Links, blocksOf}
-use Rattle.chain.proofs.Chains.{Pass, walked-pass, disjoint}
+use Rattle.wide.specs.declared.WideSlot.{WideSlot}
+use Rattle.wide.specs.Slots.{wideSlotOf, wideObjectOf, wideTypeGood, wideBytes, bytesBy, wideHeaderFits, wideFits, wideSlotGood, wideBadSlot}
+use Rattle.wide.specs.Symbols.{wideSizeGood, wideSymbolGood, wideBadEntry}
+use Rattle.chain.specs.Chains.{block, meetsBlock, inside, Links}
 use Rattle.chain.proofs.Cells.{ordered-cell}
-use Rattle.chain.proofs.AsList.{length-blocksOf, walked-links, links-block, links-walked}
-use Rattle.judge.specs.Rules.{indexRule, symbolRule, touches, slotAt, entryAt}
-use Rattle.judge.specs.Judging.{versionOf, partGood, headerFits, isLive, badSlot, badEntry}
-use Rattle.accept.specs.Meets.{Apart, Off, Present, Chain, GoodRecord, GoodLive, Meets, AcceptedExactly}
-use Rattle.judge.proofs.Telling.{and-true, GoodSlot, bad-tells, bad-good, bad-dead, GoodSymbol, entry-tells, entry-good, entry-unused}
-use Rattle.accept.proofs.Accepting.{Holds, accepted-tells, accepted-is}
+use Rattle.chain.proofs.AsList.{links-block, links-walked}
+use Rattle.judge.specs.Rules.{Family, narrow, wide, familyFor, indexRuleOf, symbolRuleOf, touchesOf, slotAtOf, entryAt}
+use Rattle.judge.specs.Judging.{versionOf, headerFits, isLive, slotGood, badSlot, symbolGood, badEntry}
+use Rattle.judge.proofs.Telling.{and-true, slot-is, slot-tells}
+use Rattle.accept.specs.declared.JudgedMap.the-variants.{Good}
+use Rattle.accept.specs.Verdicts.{headerJudged}
+use Rattle.accept.specs.Meets.{Inside, Off, GoodRecord, GoodWideRecord, GoodLive, HasBytes, GoodWideLive, Conditions, narrowConditions, wideConditions, conditionsFor, MeetsOf, AcceptedExactly}
+use Rattle.accept.proofs.Verdicts.{header-tells}
+use Rattle.accept.proofs.Accepting.{HoldsOf, header-mark, narrow-tells, wide-tells, narrow-header, wide-header, verdict-tells, verdict-is}
+use Rattle.accept.proofs.Listed.{inside-of, present-of, keeps-off, off-of, meets-of, chain-of, pass-of, walk-list}
 
--- ---- ranges
+-- ---- for a layout whose tests agree with its conditions
 
-apart-of : (a n b k : ℕ) → share a n b k ≡ false → Apart a n b k
-apart-of a n b k e x l h i j = share-no {a = a} {n = n} {b = b} {k = k} e (omega arith) (omega arith) (omega arith) (omega arith)
+record Agree (f : Family) (c : Conditions) (m : List ℕ) (used : ℕ) : Type 0 where
+  some : 0 < f .block
+  header : headerSize ≤ used → used ≤ mapLimit → used ≤ length m → u16At m 0 ≡ 3245 → (headerJudged m used ≡ Good) ↔ c .Header m used
+  others : (bs : List ℕ) → ((k : ℕ) → k < length bs → f .taboo m (getD bs k 0) ≡ false) ↔ c .OffOthers m bs
+  entry : {bs : List ℕ} → Links m indexHead bs → (p : ℕ)
+      → (f .entryAtFault (touchesOf f m (length bs)) m used p ≡ false) ↔ ((u32At m p ≡ 0 → ⊥) → c .Record m used bs (u32At m p))
+  slot : {bs : List ℕ} → Links m indexHead bs → (p : ℕ)
+      → (f .slotAtFault (touchesOf f m (length bs)) m used p ≡ false) ↔ (f .live m p ≡ true → c .LiveSlot m used bs p)
 
-share-of : (a n b k : ℕ) → Apart a n b k → share a n b k ≡ false
-unfolding share
-share-of a n b k h = go (ltb (max a b) (min (a + n) (b + k))) refl
-  where
-    go : (t : Bool) → ltb (max a b) (min (a + n) (b + k)) ≡ t → t ≡ false
-    go false e = refl
-    go true e =
-        let l = ltb-true (max a b) (min (a + n) (b + k)) e in
-        absurd (h (max a b) (omega arith) (omega arith) (omega arith) (omega arith))
-
--- ---- setup and info
-
-present-of : (used : ℕ) (p : Part) → partGood used p ≡ true → Present used p
-unfolding partGood
-present-of used p e ne =
-    let i = within-true 48 used (p .size) (p .at) (rw (ne-eqb (p .size) 0 ne) at e) in
-    record { low = i .0; high = i .1 }
-
-part-of : (used : ℕ) (p : Part) → Present used p → partGood used p ≡ true
-unfolding partGood
-part-of used p h = go (eqb (p .size) 0) refl
-  where
-    go : (t : Bool) → eqb (p .size) 0 ≡ t → t || inside used (p .size) (p .at) ≡ true
-    go true e = refl
-    go false e =
-        let i = h (λ z. never (sym (eq-eqb (p .size) 0 z) ∙ e)) in
-        within-is 48 used (p .size) (p .at) (i .low) (i .high)
-
--- ---- a chain as a list
-
-module _ {m : List ℕ} {h : ℕ} {bs : List ℕ} (ls : Links m h bs) where
-  off-of : (n p k : ℕ) → meetsBlock h n m (length bs) p k ≡ false → Off bs n p k
-  unfolding meetsBlock
-  off-of n p k e i l =
-      rw (links-block ls i l) (apart-of (block h m i) n p k (any-false (λ i. share (block h m i) n p k) (length bs) e i l))
-
-  meets-of : (n p k : ℕ) → Off bs n p k → meetsBlock h n m (length bs) p k ≡ false
-  unfolding meetsBlock
-  meets-of n p k o =
-      any-none (λ i. share (block h m i) n p k) (length bs) (λ i l. share-of (block h m i) n p k (rw (links-block ls i l) at (o i l)))
-
-module _ (r : Rule) {m : List ℕ} {used : ℕ} {bs : List ℕ} where
-  chain-of : Links m (r .head) bs → Pass r m used (length bs) → Chain m used (r .head) (r .size) bs
-  chain-of ls h =
+module _ {f : Family} {c : Conditions} {m : List ℕ} {used : ℕ} (a : Agree f c m used) where
+  meets : (n : ℕ) → HoldsOf f m used n → MeetsOf f c m used n
+  meets n h =
+      let (bs, count, ls, pass) = walk-list (indexRuleOf f m) m used n (h .index) in
+      let (ss, some, links, way) = walk-list (symbolRuleOf f m n) m used (h .symbols) (h .symbol) in
+      let (least, most, room) = header-tells m used (h .header) in
+      let mark = header-mark m used (h .header) in
       record {
-        links = ls;
-        lies = λ k l. rw (links-block ls k l) (record { low = h .lies k l .low; high = h .lies k l .high });
-        apart = λ i k l j.
-            rw (links-block ls i (omega arith), links-block ls k j)
-            (apart-of (block (r .head) m i) (r .size) (block (r .head) m k) (r .size) (disjoint h i k (omega arith) j (λ e. omega arith)));
+        least = least;
+        most = most;
+        room = room;
+        mark = mark;
+        header = a .header least most room mark .0 (h .header);
+        blocks = bs;
+        count = count;
+        index = chain-of (indexRuleOf f m) ls pass;
+        off-others = a .others bs .0 (λ k l. rw (links-block ls k l) (pass .lies k l .allowed));
+        symbols = ss;
+        symbol = chain-of (symbolRuleOf f m n) links way;
+        off-index = λ k l. rw (links-block links k l) (off-of ls (f .block) (block symbolHead m k) symbolBlockSize (rw count (way .lies k l .allowed)));
+        entries = λ e l.
+            rw (sym (ordered-cell symbolHead entrySize m (length ss) ss (links-block links) e l))
+            (a .entry ls (entryAt m e) .0 (rw count (h .entry e (rw some at l))));
+        slots = λ s l.
+            rw (sym (ordered-cell indexHead (f .slot) m (length bs) bs (links-block ls) s l))
+            (a .slot ls (slotAtOf f m s) .0 (rw count (h .slot s (rw count at l))));
       }
 
-  pass-of : Chain m used (r .head) (r .size) bs → ((k : ℕ) → k < length bs → r .taboo (getD bs k 0) ≡ false) → Pass r m used (length bs)
-  unfolding meetsBlock
-  pass-of c t =
-      record {
-        lies = λ k l.
-            let e = links-block (c .links) k l in
+  holds : (n : ℕ) → MeetsOf f c m used n → HoldsOf f m used n
+  holds n h =
+      let bs : List ℕ = h .blocks in
+      let ss : List ℕ = h .symbols in
+      let ls : Links m indexHead bs = h .index .links in
+      let links : Links m symbolHead ss = h .symbol .links in
+      let off : (k : ℕ) → k < length ss → symbolRuleOf f m (length bs) .taboo (getD ss k 0) ≡ false =
+      λ k l. meets-of ls (f .block) (getD ss k 0) symbolBlockSize (h .off-index k l) in
+      rw (sym (h .count))
+      (record {
+        header = a .header (h .least) (h .most) (h .room) (h .mark) .1 (h .header);
+        index = links-walked (indexRuleOf f m) m used (a .some) ls (pass-of (indexRuleOf f m) (h .index) (a .others bs .1 (h .off-others)));
+        symbols = length ss;
+        symbol = links-walked (symbolRuleOf f m (length bs)) m used (omega arith) links (pass-of (symbolRuleOf f m (length bs)) (h .symbol) off);
+        entry = λ e l.
+            a .entry ls (entryAt m e) .1
+            (rw (ordered-cell symbolHead entrySize m (length ss) ss (links-block links) e l) (h .entries e l));
+        slot = λ s l.
+            a .slot ls (slotAtOf f m s) .1
+            (rw (ordered-cell indexHead (f .slot) m (length bs) bs (links-block ls) s l) (h .slots s l));
+      })
+
+-- ---- a test that is made where something counts
+
+judged : {C G : Type 0} (a b : Bool) → (C ↔ (a ≡ true)) → ((b ≡ true) ↔ G) → (a && not b ≡ false) ↔ (C → G)
+judged a b c g = (λ e k. g .0 (told a (c .0 k) e), λ h. shown a (λ e. g .1 (h (c .1 e))))
+  where
+    told : (a : Bool) → a ≡ true → a && not b ≡ false → b ≡ true
+    told true k e = not-false b e
+    told false k e = absurd (never (sym k))
+
+    shown : (a : Bool) → (a ≡ true → b ≡ true) → a && not b ≡ false
+    shown true h = rw (h refl)
+    shown false h = refl
+
+-- an entry counts where it is not 0
+entry-used : (x : ℕ) → (x ≡ 0 → ⊥) ↔ (not (eqb x 0) ≡ true)
+entry-used x = (λ ne. rw (ne-eqb x 0 ne), λ e. eqb-false x 0 (not-true (eqb x 0) e))
+
+-- a slot of 6 to 8 where it is live
+slot-live : (k : State) → (sameState Live k ≡ true) ↔ (isLive k ≡ true)
+slot-live Free = (λ e. e, λ e. e)
+slot-live Erased = (λ e. e, λ e. e)
+slot-live Live = (λ e. e, λ e. e)
+
+-- ---- symbol records
+
+module _ {m : List ℕ} {bs : List ℕ} (ls : Links m indexHead bs) (used q : ℕ) where
+  -- the first s bytes say the size n, which is good by g; a block has w bytes
+  recorded : (w s n : ℕ) (g : Bool)
+      → (inside used s q && (g && (inside used n q && not (meetsBlock indexHead w m (length bs) q n))) ≡ true) ↔ (Inside used q s × (g ≡ true) × Inside used q n × Off bs w q n)
+  recorded w s n g = (
+    λ e.
+        let a = and-true (inside used s q) _ e in
+        let b = and-true g _ (a .1) in
+        let c = and-true (inside used n q) _ (b .1) in
+        (inside-of used q s .0 (a .0), b .0, inside-of used q n .0 (c .0), off-of ls w q n (not-true _ (c .1))),
+    λ (i, k, j, o). rw (inside-of used q s .1 i, k, inside-of used q n .1 j, meets-of ls w q n o),
+  )
+
+  record-of : (symbolGood (touchesOf narrow m (length bs)) m used q ≡ true) ↔ GoodRecord m used bs q
+  unfolding symbolGood
+  record-of =
+      let r = recorded indexBlockSize 2 (u16At m q) (sizeGood (u16At m q)) in (
+        λ e. let t = r .0 e in record { start = t .0; size = t .1; lies = t .2; off = t .3 },
+        λ g. r .1 (g .start, g .size, g .lies, g .off),
+      )
+
+  wide-record-of : (wideSymbolGood (touchesOf wide m (length bs)) m used q ≡ true) ↔ GoodWideRecord m used bs q
+  unfolding wideSymbolGood
+  wide-record-of =
+      let r = recorded wideBlockSize 4 (u32At m q) (wideSizeGood (u32At m q)) in (
+        λ e. let t = r .0 e in record { start = t .0; size = t .1; lies = t .2; off = t .3 },
+        λ g. r .1 (g .start, g .size, g .lies, g .off),
+      )
+
+-- ---- live slots
+
+-- the two meanings of a Len in 9 to 11 exclude each other
+bytes-tell : (len k : ℕ) → (wideBytes len k ≡ 0 → ⊥) → HasBytes len k (wideBytes len k)
+unfolding wideBytes
+bytes-tell len k = go (eqb len k) refl (eqb len (40 + 8 * k)) refl
+  where
+    go : (a : Bool) → eqb len k ≡ a → (b : Bool) → eqb len (40 + 8 * k) ≡ b
+        → (cond a (32 + 8 * len) (cond b len 0) ≡ 0 → ⊥) → HasBytes len k (cond a (32 + 8 * len) (cond b len 0))
+    go true p b q ne = inl (eqb-true len k p, refl)
+    go false p true q ne = inr (eqb-true len (40 + 8 * k) q, refl)
+    go false p false q ne = absurd (ne refl)
+
+bytes-are : (len k bytes : ℕ) → HasBytes len k bytes → (wideBytes len k ≡ bytes) × (bytes ≡ 0 → ⊥)
+unfolding wideBytes
+bytes-are len k bytes (inl (e, b)) = (rw (eq-eqb len k e) (sym b), λ z. omega arith)
+bytes-are len k bytes (inr (e, b)) =
+    (rw (ne-eqb len k (λ s. omega arith), eq-eqb len (40 + 8 * k) e) (sym b), λ z. omega arith)
+
+module _ {m : List ℕ} {bs : List ℕ} (ls : Links m indexHead bs) (used : ℕ) where
+  live-of : (t : Slot) → (slotGood (touchesOf narrow m (length bs)) m used (versionOf m) t ≡ true) ↔ GoodLive m used bs t
+  unfolding headerFits
+  live-of t =
+      let o = objectOf (drop (t .position) m) in
+      let n = bytesIn (versionOf m) (t .len) in (
+        λ e.
+            let g = slot-tells (touchesOf narrow m (length bs)) m used (versionOf m) t e in
+            let a = and-true (eqb (o .sym) (t .sym)) _ (g .fits) in
+            let b = and-true (typeGood (o .kind)) _ (a .1) in
             record {
-              low = rw e at (c .lies k l .low);
-              high = rw e at (c .lies k l .high);
-              allowed = rw e at (t k l);
-              free = any-none (λ i. share (block (r .head) m i) (r .size) (block (r .head) m k) (r .size)) k
-                  (λ i j.
-                  share-of (block (r .head) m i) (r .size) (block (r .head) m k) (r .size)
-                  (rw (links-block (c .links) i (omega arith), e) at (c .apart i k j l)));
-            };
-      }
+              wide = g .wide;
+              tall = g .high;
+              len = g .len;
+              lies = record { low = g .low; high = g .end };
+              off = off-of ls indexBlockSize (t .position) n (g .off);
+              sym = eqb-true (o .sym) (t .sym) (a .0);
+              kind = b .0;
+              pairs = eqb-true (o .items + o .texts) (pairsOf (versionOf m) (t .len)) (b .1);
+            },
+        λ g.
+            slot-is
+            (record {
+              wide = g .wide;
+              high = g .tall;
+              len = g .len;
+              low = g .lies .low;
+              end = g .lies .high;
+              off = meets-of ls indexBlockSize (t .position) n (g .off);
+              fits = rw (eq-eqb (o .sym) (t .sym) (g .sym), g .kind, eq-eqb (o .items + o .texts) (pairsOf (versionOf m) (t .len)) (g .pairs));
+            }),
+      )
 
--- what a walk to the end gives
-walk-list : (r : Rule) (m : List ℕ) (used n : ℕ) → walked r m used ≡ Blocks n
-    → (bs : List ℕ) × (length bs ≡ n) × Links m (r .head) bs × Pass r m used (length bs)
-walk-list r m used n e =
-    let z = length-blocksOf (r .head) m n in
-    (blocksOf (r .head) m n, z, walked-links r m used e, rw z (walked-pass r m used e))
+  wide-live-of : (t : WideSlot) → (wideSlotGood (touchesOf wide m (length bs)) m used t ≡ true) ↔ GoodWideLive m used bs t
+  unfolding wideSlotGood wideFits wideHeaderFits
+  wide-live-of t =
+      let o = wideObjectOf (drop (t .position) m) in
+      let n = bytesBy t o in (
+        λ e.
+            let a = and-true (leZ (valueOf (t .left)) (valueOf (t .right))) _ e in
+            let b = and-true (leZ (valueOf (t .bottom)) (valueOf (t .top))) _ (a .1) in
+            let c = and-true (wideHeaderFits o t) _ (b .1) in
+            let d = and-true (inside used n (t .position)) _ (c .1) in
+            let x = and-true (eqb (o .sym) (t .sym)) _ (c .0) in
+            let y = and-true (wideTypeGood (o .kind)) _ (x .1) in
+            record {
+              wide = a .0;
+              tall = b .0;
+              bytes = n;
+              len = bytes-tell (t .len) (o .items + o .texts) (eqb-false n 0 (not-true _ (y .1)));
+              lies = inside-of used (t .position) n .0 (d .0);
+              off = off-of ls wideBlockSize (t .position) n (not-true _ (d .1));
+              sym = eqb-true (o .sym) (t .sym) (x .0);
+              kind = y .0;
+            },
+        λ g.
+            let b = bytes-are (t .len) (o .items + o .texts) (g .bytes) (g .len) in
+            rw (
+              g .wide,
+              g .tall,
+              eq-eqb (o .sym) (t .sym) (g .sym),
+              g .kind,
+              b .0,
+              ne-eqb (g .bytes) 0 (b .1),
+              inside-of used (t .position) (g .bytes) .1 (g .lies),
+              meets-of ls wideBlockSize (t .position) (g .bytes) (g .off),
+            ),
+      )
 
--- ---- a symbol record and a live slot
+-- ---- the two layouts
 
-module _ {m : List ℕ} {used : ℕ} {bs : List ℕ} (ls : Links m indexHead bs) where
-  record-of : {q : ℕ} → GoodSymbol (touches m (length bs)) m used q → GoodRecord m used bs q
-  record-of {q} g =
+module _ (m : List ℕ) (used : ℕ) where
+  narrow-agree : isWide (versionOf m) ≡ false → Agree narrow narrowConditions m used
+  unfolding badSlot badEntry
+  narrow-agree w =
+      let p : Part = partOf m setupAt in
+      let q : Part = partOf m infoAt in
       record {
-        start = record { low = g .low; high = g .start };
-        size = g .size;
-        lies = record { low = g .low; high = g .end };
-        off = off-of ls indexBlockSize q (u16At m q) (g .off);
+        some = omega arith;
+        header = λ least most room mark. (
+          λ e.
+              let t = narrow-tells m used w e in
+              record { pair = t .0; setup = present-of used p .0 (t .1); info = present-of used q .0 (t .2) },
+          λ h. narrow-header m least most room mark w (h .pair) (present-of used p .1 (h .setup)) (present-of used q .1 (h .info)),
+        );
+        others = λ bs. (
+          λ h.
+              record {
+                setup = λ k l. keeps-off (getD bs k 0) indexBlockSize p .0 (or-left (share (p .at) (p .size) (getD bs k 0) indexBlockSize) _ (h k l));
+                info = λ k l. keeps-off (getD bs k 0) indexBlockSize q .0 (or-snd (share (p .at) (p .size) (getD bs k 0) indexBlockSize) _ (h k l));
+              },
+          λ o k l. rw (keeps-off (getD bs k 0) indexBlockSize p .1 (o .setup k l), keeps-off (getD bs k 0) indexBlockSize q .1 (o .info k l)),
+        );
+        entry = λ ls x. judged _ _ (entry-used (u32At m x)) (record-of ls used (u32At m x));
+        slot = λ ls x. judged _ _ (slot-live (stateOf (slotOf m x))) (live-of ls used (slotOf m x));
       }
 
-  symbol-of : {q : ℕ} → GoodRecord m used bs q → GoodSymbol (touches m (length bs)) m used q
-  symbol-of {q} g =
+  wide-agree : isWide (versionOf m) ≡ true → Agree wide wideConditions m used
+  unfolding wideBadSlot wideBadEntry
+  wide-agree w =
       record {
-        low = g .start .low;
-        start = g .start .high;
-        size = g .size;
-        end = g .lies .high;
-        off = meets-of ls indexBlockSize q (u16At m q) (g .off);
+        some = omega arith;
+        header = λ least most room mark.
+            (λ e. record { version = w; kind = wide-tells m used w e }, λ h. wide-header m least most room mark w (h .kind));
+        others = λ bs. (λ h. tt, λ o k l. refl);
+        entry = λ ls x. judged _ _ (entry-used (u32At m x)) (wide-record-of ls used (u32At m x));
+        slot = λ ls x. judged _ _ (λ e. e, λ e. e) (wide-live-of ls used (wideSlotOf m x));
       }
 
-  live-of : {t : Slot} → GoodSlot (touches m (length bs)) m used (versionOf m) t → GoodLive m used bs t
-  unfolding headerFits
-  live-of {t} g =
-      let o = objectOf (drop (t .position) m) in
-      let a = and-true (eqb (o .sym) (t .sym)) _ (g .fits) in
-      let b = and-true (typeGood (o .kind)) _ (a .1) in
-      record {
-        wide = g .wide;
-        tall = g .high;
-        len = g .len;
-        lies = record { low = g .low; high = g .end };
-        off = off-of ls indexBlockSize (t .position) (bytesIn (versionOf m) (t .len)) (g .off);
-        sym = eqb-true (o .sym) (t .sym) (a .0);
-        kind = b .0;
-        pairs = eqb-true (o .items + o .texts) (pairsOf (versionOf m) (t .len)) (b .1);
-      }
-
-  slot-of : {t : Slot} → GoodLive m used bs t → GoodSlot (touches m (length bs)) m used (versionOf m) t
-  unfolding headerFits
-  slot-of {t} g =
-      let o = objectOf (drop (t .position) m) in
-      record {
-        wide = g .wide;
-        high = g .tall;
-        len = g .len;
-        low = g .lies .low;
-        end = g .lies .high;
-        off = meets-of ls indexBlockSize (t .position) (bytesIn (versionOf m) (t .len)) (g .off);
-        fits = rw (eq-eqb (o .sym) (t .sym) (g .sym), g .kind, eq-eqb (o .items + o .texts) (pairsOf (versionOf m) (t .len)) (g .pairs));
-      }
-
--- ---- a cell is not at fault if what it holds, where it holds something, is good
-
-entry-judged : (touch : ℕ → ℕ → Bool) (m : List ℕ) (used p : ℕ) → ((u32At m p ≡ 0 → ⊥) → GoodSymbol touch m used (u32At m p)) → badEntry touch m used p ≡ false
-entry-judged touch m used p g = go (eqb (u32At m p) 0) refl
-  where
-    go : (t : Bool) → eqb (u32At m p) 0 ≡ t → badEntry touch m used p ≡ false
-    go true e = entry-unused touch m used p (eqb-true (u32At m p) 0 e)
-    go false e = entry-good touch m used p (g (λ z. never (sym (eq-eqb (u32At m p) 0 z) ∙ e)))
-
-slot-judged : (touch : ℕ → ℕ → Bool) (m : List ℕ) (used v p : ℕ) → (isLive (stateOf (slotOf m p)) ≡ true → GoodSlot touch m used v (slotOf m p)) → badSlot touch m used v p ≡ false
-slot-judged touch m used v p g = go (isLive (stateOf (slotOf m p))) refl
-  where
-    go : (t : Bool) → isLive (stateOf (slotOf m p)) ≡ t → badSlot touch m used v p ≡ false
-    go true e = bad-good touch m used v p (g e)
-    go false e = bad-dead touch m used v p e
-
--- ---- the whole
-
-meets : (m : List ℕ) (used n : ℕ) → Holds m used n → Meets m used n
-meets m used n h =
-    let (bs, count, ls, pass) = walk-list (indexRule m) m used n (h .index) in
-    let (ss, some, links, way) = walk-list (symbolRule m n) m used (h .symbols) (h .symbol) in
-    record {
-      least = h .low;
-      most = h .limit;
-      room = h .room;
-      mark = h .mark;
-      pair = h .pair;
-      setup = present-of used (partOf m setupAt) (h .setup);
-      info = present-of used (partOf m infoAt) (h .info);
-      blocks = bs;
-      count = count;
-      index = chain-of (indexRule m) ls pass;
-      off-setup = λ k l.
-          let p : Part = partOf m setupAt in
-          let q : Part = partOf m infoAt in
-          let b : ℕ = block indexHead m k in
-          rw (links-block ls k l)
-          (apart-of b indexBlockSize (p .at) (p .size)
-          (share-comm b indexBlockSize (p .at) (p .size)
-          ∙ or-left (share (p .at) (p .size) b indexBlockSize) (share (q .at) (q .size) b indexBlockSize) (pass .lies k l .allowed)));
-      off-info = λ k l.
-          let p : Part = partOf m setupAt in
-          let q : Part = partOf m infoAt in
-          let b : ℕ = block indexHead m k in
-          rw (links-block ls k l)
-          (apart-of b indexBlockSize (q .at) (q .size)
-          (share-comm b indexBlockSize (q .at) (q .size)
-          ∙ or-snd (share (p .at) (p .size) b indexBlockSize) (share (q .at) (q .size) b indexBlockSize) (pass .lies k l .allowed)));
-      symbols = ss;
-      symbol = chain-of (symbolRule m n) links way;
-      off-index = λ k l. rw (links-block links k l) (off-of ls indexBlockSize (block symbolHead m k) 1028 (rw count (way .lies k l .allowed)));
-      entries = λ e l.
-          rw (sym (ordered-cell symbolHead entrySize m (length ss) ss (links-block links) e l))
-          (λ ne. record-of ls (rw count (entry-tells (touches m n) m used (entryAt m e) (h .entry e (rw some at l)) ne)));
-      slots = λ s l.
-          rw (sym (ordered-cell indexHead slotSize m (length bs) bs (links-block ls) s l))
-          (λ live. live-of ls (rw count (bad-tells (touches m n) m used (versionOf m) (slotAt m s) (h .slot s (rw count at l)) live)));
-    }
-
-holds : (m : List ℕ) (used n : ℕ) → Meets m used n → Holds m used n
-holds m used n h =
-    let bs : List ℕ = h .blocks in
-    let ss : List ℕ = h .symbols in
-    let ls : Links m indexHead bs = h .index .links in
-    let links : Links m symbolHead ss = h .symbol .links in
-    let clear : (p : Part) → Off bs indexBlockSize (p .at) (p .size) → (k : ℕ) → k < length bs → share (p .at) (p .size) (getD bs k 0) indexBlockSize ≡ false =
-    λ p o k l.
-    share-comm (p .at) (p .size) (getD bs k 0) indexBlockSize ∙ share-of (getD bs k 0) indexBlockSize (p .at) (p .size) (o k l) in
-    let allowed : (k : ℕ) → k < length bs → indexRule m .taboo (getD bs k 0) ≡ false =
-    λ k l. rw (clear (partOf m setupAt) (h .off-setup) k l, clear (partOf m infoAt) (h .off-info) k l) in
-    let off : (k : ℕ) → k < length ss → symbolRule m (length bs) .taboo (getD ss k 0) ≡ false =
-    λ k l. meets-of ls indexBlockSize (getD ss k 0) 1028 (h .off-index k l) in
-    rw (sym (h .count))
-    (record {
-      low = h .least;
-      limit = h .most;
-      room = h .room;
-      mark = h .mark;
-      pair = h .pair;
-      setup = part-of used (partOf m setupAt) (h .setup);
-      info = part-of used (partOf m infoAt) (h .info);
-      index = links-walked (indexRule m) m used (omega arith) ls (pass-of (indexRule m) (h .index) allowed);
-      symbols = length ss;
-      symbol = links-walked (symbolRule m (length bs)) m used (omega arith) links (pass-of (symbolRule m (length bs)) (h .symbol) off);
-      entry = λ e l.
-          entry-judged (touches m (length bs)) m used (entryAt m e)
-          (λ ne. symbol-of ls (rw (ordered-cell symbolHead entrySize m (length ss) ss (links-block links) e l) (h .entries e l (rw (sym (ordered-cell symbolHead entrySize m (length ss) ss (links-block links) e l)) ne))));
-      slot = λ s l.
-          slot-judged (touches m (length bs)) m used (versionOf m) (slotAt m s)
-          (λ live. slot-of ls (rw (ordered-cell indexHead slotSize m (length bs) bs (links-block ls) s l) (h .slots s l (rw (sym (ordered-cell indexHead slotSize m (length bs) bs (links-block ls) s l)) live))));
-    })
+  agree : (b : Bool) → isWide (versionOf m) ≡ b → Agree (familyFor b) (conditionsFor b) m used
+  agree true w = wide-agree w
+  agree false w = narrow-agree w
 
 pub accepted-exactly : AcceptedExactly
-accepted-exactly m used n = (λ h. accepted-is (holds m used n h), λ e. meets m used n (accepted-tells m used n e))
+accepted-exactly m used n =
+    let a = agree m used (isWide (versionOf m)) refl in
+    (λ h. verdict-is (holds a n h), λ e. meets a n (verdict-tells m used n e))
