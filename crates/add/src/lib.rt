@@ -35,8 +35,7 @@ ghost use Rattle.slots.specs.Slots.{slotOf, slotBytes};
 ghost use Rattle.chain.specs.Chains.{place};
 ghost use Rattle.chain.specs.Tables.{Empty, Ordered};
 ghost use Rattle.judge.specs.Judging.{versionOf};
-ghost use Rattle.accept.specs.Verdicts.{verdict};
-ghost use Rattle.accept.specs.declared.Verdict.the-variants.{Accepted};
+ghost use Rattle.accept.specs.Verdicts.{Editable};
 ghost use Rattle.journal.specs.Journals.{inUse};
 ghost use Rattle.edit.specs.declared.EditAnswer.the-variants.{Refused};
 ghost use Rattle.accept.specs.Slots.{freeSlot};
@@ -128,7 +127,7 @@ fn repeat_add(
     kind: u32,
     slot: u32,
 ) -> EditAnswer
-    requires { ⌜ (verdict (now m) used ≡ Accepted n) × Ordered indexHead (now m) n (now order) × (n ≤ length (now order)) × (slot < blockCells * n) ⌝ }
+    requires { ⌜ Editable (now m) used n × Ordered indexHead (now m) n (now order) × (n ≤ length (now order)) × (slot < blockCells * n) ⌝ }
     ensures { λ r. ⌜ ((j : List ℕ) → r ≡ repeatAdd (now (m .entry)) used j (now (o .entry)) kind slot .answer) ⌝ }
 {
     if kind != JournalRecord::ADD {
@@ -188,7 +187,7 @@ fn last_link(order: &[u32], n: usize) -> usize
 
 // The map after an add of a well-formed object to the first free slot, or to a new block.
 fn write_added(map: &mut [u8], used: usize, order: &[u32], n: usize, s: usize, o: &[u8])
-    requires { ⌜ (verdict (now map) used ≡ Accepted n) × Ordered indexHead (now map) n (now order) × (n ≤ length (now order)) × (s ≡ freeSlot (now map) n)
+    requires { ⌜ Editable (now map) used n × Ordered indexHead (now map) n (now order) × (n ≤ length (now order)) × (s ≡ freeSlot (now map) n)
         × (offeredGood (versionOf (now map)) (now o) ≡ true) × (newLength (now map) used n (now o) ≤ mapLimit)
         × (newLength (now map) used n (now o) ≤ length (now map)) ⌝ }
     ensures { λ r. ⌜ now (map .exit) ≡ addedMap (now (map .entry)) used n (now (o .entry)) ⌝ }
@@ -224,7 +223,7 @@ fn add_new(
     records: usize,
     s: usize,
 ) -> EditAnswer
-    requires { ⌜ (verdict (now map) used ≡ Accepted n) × Ordered indexHead (now map) n (now order) × (n ≤ length (now order))
+    requires { ⌜ Editable (now map) used n × Ordered indexHead (now map) n (now order) × (n ≤ length (now order))
         × (records ≡ inUse (now journal)) × (s ≡ freeSlot (now map) n) ⌝ }
     ensures { λ r. ⌜ Edited (freshAdd (now (map .entry)) used (now (journal .entry)) edit (now (o .entry)) n) r (now (map .exit)) (now (journal .exit)) ⌝ }
 {

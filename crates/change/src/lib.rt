@@ -28,8 +28,7 @@ ghost use Rattle.chain.specs.Chains.{place};
 ghost use Rattle.chain.specs.Tables.{Empty, endsMeet};
 ghost use Rattle.judge.specs.Indexed.{Indexed};
 ghost use Rattle.judge.specs.Rules.{slotAt};
-ghost use Rattle.accept.specs.Verdicts.{verdict};
-ghost use Rattle.accept.specs.declared.Verdict.the-variants.{Accepted};
+ghost use Rattle.accept.specs.Verdicts.{Editable};
 ghost use Rattle.journal.specs.Journals.{inUse};
 ghost use Rattle.edit.specs.declared.EditAnswer.the-variants.{Refused};
 ghost use Rattle.edit.specs.Edits.{Edited};
@@ -84,7 +83,7 @@ fn sym_for(
     kind: u32,
     at: u32,
 ) -> NewSym
-    requires { ⌜ (verdict (now m) used ≡ Accepted n) × Known (now m) used n (now index) (now order) × (used + indexPage ≤ length (now index) * indexPage)
+    requires { ⌜ Editable (now m) used n × Known (now m) used n (now index) (now order) × (used + indexPage ≤ length (now index) * indexPage)
         × (n ≤ length (now order)) ⌝ }
     ensures { λ r. ⌜ r ≡ newSymFor kind (now (m .entry)) used n at ⌝ }
 {

@@ -3,10 +3,13 @@
 --     numberOf, placeOf, beforeOf, slotNo, lengthOf     document 01's values of an answer. In a refusal slot and length are 0
 --     Outcome                the answer, and every byte of the map's buffer and of the journal afterwards
 --     Edited o a m j         the result of an edit whose outcome is o: its answer a, and the map m and the journal j afterwards
---     startOf, begun         1 to 7; then 13; then a number that is held (`repeat`, with the record's kind and slot) or a new one (`fresh`)
+--     startOf, begun         1 to 7; then 17; then 13; then a number that is held (`repeat`, with the record's kind and slot) or a new one (`fresh`)
 use Prim.Native.Nat.{ℕ}
+use mathlib.Core.Bool.{cond}
 use mathlib.Core.Path.{_≡_}
 use mathlib.Core.List.{List}
+use Rattle.records.specs.Headers.{isWide}
+use Rattle.judge.specs.Judging.{versionOf}
 use Rattle.accept.specs.declared.Verdict.{Verdict}
 use Rattle.accept.specs.declared.Verdict.the-variants as verdicts
 use Rattle.accept.specs.Verdicts.{verdict}
@@ -65,7 +68,8 @@ afterLook m n (New k) = starts.New n k (freeSlot m n)
 abbrev pub afterCheck : List ℕ → List ℕ → ℕ → Verdict → EditStart
 -- 1 to 7: the check's
 afterCheck m j e (verdicts.Refused k p) = starts.Refused k p
-afterCheck m j e (verdicts.Accepted n) = afterLook m n (looked j m n e)
+-- 17: "for an edit [..] on them", which are maps of 9 to 11, "right after 1 to 7"
+afterCheck m j e (verdicts.Accepted n) = cond (isWide (versionOf m)) (starts.Refused 17 0) (afterLook m n (looked j m n e))
 
 unfoldable pub startOf : List ℕ → ℕ → List ℕ → ℕ → EditStart
 startOf m used j e = afterCheck m j e (verdict m used)

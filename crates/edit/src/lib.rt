@@ -13,8 +13,7 @@ ghost use Rattle.records.specs.Headers.{indexHead};
 ghost use Rattle.chain.specs.Chains.{place};
 ghost use Rattle.chain.specs.Tables.{Ordered};
 ghost use Rattle.accept.specs.Opens.{withFree};
-ghost use Rattle.accept.specs.Verdicts.{verdict};
-ghost use Rattle.accept.specs.declared.Verdict.the-variants.{Accepted};
+ghost use Rattle.accept.specs.Verdicts.{verdict, Editable};
 ghost use Rattle.edit.specs.declared.EditAnswer.the-variants.{Refused};
 ghost use Rattle.edit.specs.Edits.{numberOf, placeOf, beforeOf, slotNo, lengthOf, startOf};
 
@@ -96,7 +95,7 @@ pub fn refused(number: u32) -> EditAnswer
     EditAnswer::Refused { number, place: 0 }
 }
 
-// How an edit starts: refused by the check or for its journal; or its number is held, by a record of this kind and slot; or it is new, in a map of so many
+// How an edit starts: refused by the check, for its layout or for its journal; or its number is held, by a record of this kind and slot; or it is new, in a map of so many
 // index blocks and a journal of so many records, with its first free slot.
 pub enum EditStart {
     Refused {
@@ -115,8 +114,8 @@ pub enum EditStart {
     },
 }
 
-// How an edit starts on a map that was examined: the check's refusal, or what the look into the journal says. The lent order has the index blocks afterwards,
-// where the map is accepted. The examination is the caller's, so that its tables are gone when those of the journal are made.
+// How an edit starts on a map that was examined: the check's refusal, or 17 in 9 to 11, or what the look into the journal says. The lent order has the index
+// blocks afterwards, where an edit takes the map. The examination is the caller's, so that its tables are gone when those of the journal are made.
 pub fn begin(
     m: &[u8],
     used: usize,
@@ -127,10 +126,14 @@ pub fn begin(
 ) -> EditStart
     requires { ⌜ (v ≡ withFree (now m) (verdict (now m) used)) × (used ≤ mapLimit → used < headerSize + indexBlockSize * (length (now order) + 1)) ⌝ }
     ensures { λ r. ⌜ (r ≡ startOf (now (m .entry)) used (now (j .entry)) e)
-        × ((n : ℕ) → verdict (now (m .entry)) used ≡ Accepted n → Ordered indexHead (now (m .entry)) n (now (order .exit))) ⌝ }
+        × ((n : ℕ) → Editable (now (m .entry)) used n → Ordered indexHead (now (m .entry)) n (now (order .exit))) ⌝ }
 {
     match v {
         ExaminedMap::Refused { number, place } => EditStart::Refused { number, place },
+        ExaminedMap::Wide { blocks: _ } => EditStart::Refused {
+            number: 17,
+            place: 0,
+        },
         ExaminedMap::Accepted { blocks, free } => {
             order_blocks(m, Header::INDEX, blocks, order);
             let look = look_up(j, m, order, blocks, e);
