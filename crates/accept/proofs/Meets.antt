@@ -1,5 +1,5 @@
--- The check answers accepted exactly when the conditions for a map hold. What both layouts share is proved once, for a layout whose tests agree with its
--- conditions (`Agree`); then it is shown that each of the two agrees. Assumes nothing.
+-- The check answers accepted exactly when the conditions for a map hold. What both layouts share is proved once, for a layout whose tests say what its
+-- conditions say (`Faithful`); then that is shown of each of the two. Assumes nothing.
 use Prim.Native.Nat.{ℕ, _+_, _*_, _≤_, _<_}
 use mathlib.Core.Bool.{Bool, true, false, not, cond, _&&_}
 use mathlib.Core.Path.{_≡_, refl, sym}
@@ -39,9 +39,9 @@ use Rattle.accept.proofs.Verdicts.{header-tells}
 use Rattle.accept.proofs.Accepting.{HoldsOf, header-mark, narrow-tells, wide-tells, narrow-header, wide-header, verdict-tells, verdict-is}
 use Rattle.accept.proofs.Listed.{inside-of, present-of, keeps-off, off-of, meets-of, chain-of, pass-of, walk-list}
 
--- ---- for a layout whose tests agree with its conditions
+-- ---- for a layout f whose tests say what the conditions c say
 
-record Agree (f : Family) (c : Conditions) (m : List ℕ) (used : ℕ) : Type 0 where
+record Faithful (f : Family) (c : Conditions) (m : List ℕ) (used : ℕ) : Type 0 where
   some : 0 < f .block
   header : headerSize ≤ used → used ≤ mapLimit → used ≤ length m → u16At m 0 ≡ 3245 → (headerJudged m used ≡ Good) ↔ c .Header m used
   others : (bs : List ℕ) → ((k : ℕ) → k < length bs → f .taboo m (getD bs k 0) ≡ false) ↔ c .OffOthers m bs
@@ -50,7 +50,7 @@ record Agree (f : Family) (c : Conditions) (m : List ℕ) (used : ℕ) : Type 0 
   slot : {bs : List ℕ} → Links m indexHead bs → (p : ℕ)
       → (f .slotAtFault (touchesOf f m (length bs)) m used p ≡ false) ↔ (f .live m p ≡ true → c .LiveSlot m used bs p)
 
-module _ {f : Family} {c : Conditions} {m : List ℕ} {used : ℕ} (a : Agree f c m used) where
+module _ {f : Family} {c : Conditions} {m : List ℕ} {used : ℕ} (a : Faithful f c m used) where
   meets : (n : ℕ) → HoldsOf f m used n → MeetsOf f c m used n
   meets n h =
       let (bs, count, ls, pass) = walk-list (indexRuleOf f m) m used n (h .index) in
@@ -245,9 +245,9 @@ module _ {m : List ℕ} {bs : List ℕ} (ls : Links m indexHead bs) (used : ℕ)
 -- ---- the two layouts
 
 module _ (m : List ℕ) (used : ℕ) where
-  narrow-agree : isWide (versionOf m) ≡ false → Agree narrow narrowConditions m used
+  narrow-faithful : isWide (versionOf m) ≡ false → Faithful narrow narrowConditions m used
   unfolding badSlot badEntry
-  narrow-agree w =
+  narrow-faithful w =
       let p : Part = partOf m setupAt in
       let q : Part = partOf m infoAt in
       record {
@@ -270,9 +270,9 @@ module _ (m : List ℕ) (used : ℕ) where
         slot = λ ls x. judged _ _ (slot-live (stateOf (slotOf m x))) (live-of ls used (slotOf m x));
       }
 
-  wide-agree : isWide (versionOf m) ≡ true → Agree wide wideConditions m used
+  wide-faithful : isWide (versionOf m) ≡ true → Faithful wide wideConditions m used
   unfolding wideBadSlot wideBadEntry
-  wide-agree w =
+  wide-faithful w =
       record {
         some = omega arith;
         header = λ least most room mark.
@@ -282,11 +282,11 @@ module _ (m : List ℕ) (used : ℕ) where
         slot = λ ls x. judged _ _ (λ e. e, λ e. e) (wide-live-of ls used (wideSlotOf m x));
       }
 
-  agree : (b : Bool) → isWide (versionOf m) ≡ b → Agree (familyFor b) (conditionsFor b) m used
-  agree true w = wide-agree w
-  agree false w = narrow-agree w
+  faithful : (b : Bool) → isWide (versionOf m) ≡ b → Faithful (familyFor b) (conditionsFor b) m used
+  faithful true w = wide-faithful w
+  faithful false w = narrow-faithful w
 
 pub accepted-exactly : AcceptedExactly
 accepted-exactly m used n =
-    let a = agree m used (isWide (versionOf m)) refl in
+    let a = faithful m used (isWide (versionOf m)) refl in
     (λ h. verdict-is (holds a n h), λ e. meets a n (verdict-tells m used n e))
