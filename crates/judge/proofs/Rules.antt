@@ -9,7 +9,7 @@ use lib.ListN.{length}
 use Rattle.numbers.specs.Bytes.{Bytes}
 use Rattle.numbers.proofs.Bytes.{leAt-lt}
 use Rattle.records.specs.declared.Header.{Header}
-use Rattle.records.specs.Sizes.{headerSize, mapLimit, indexBlockSize, wideBlockSize, indexPage, mostBlocks, symbolBlockSize, symbolPage}
+use Rattle.records.specs.Sizes.{headerSize, mapLimit, indexBlockSize, wideBlockSize, wideSlotSize, indexPage, mostBlocks, symbolBlockSize, symbolPage}
 use Rattle.records.specs.Headers.{headerOf, setupAt, infoAt, indexHead, symbolHead, isWide}
 use Rattle.chain.specs.declared.Kind.{Kind}
 use Rattle.chain.specs.declared.Walk.{Walk}
@@ -27,14 +27,15 @@ use Rattle.judge.proofs.Judging.{same-touch}
 
 -- ---- the two layouts
 
--- an index block of either has more bytes than a page of its table, and few enough
+-- an index block of either has more bytes than a page of its table, and few enough, and so has a slot
 pub record Sized (f : Family) : Type 0 where
   pub least : indexBlockSize ≤ f .block
   pub most : f .block ≤ wideBlockSize
+  pub slot-most : f .slot ≤ wideSlotSize
 
 pub sized : (b : Bool) → Sized (familyFor b)
-sized true = record { least = omega arith; most = omega arith }
-sized false = record { least = omega arith; most = omega arith }
+sized true = record { least = omega arith; most = omega arith; slot-most = omega arith }
+sized false = record { least = omega arith; most = omega arith; slot-most = omega arith }
 
 -- ---- index blocks
 

@@ -5,6 +5,7 @@ use chain::meets_block;
 use numbers::at_most;
 use numbers::u16_at;
 use records::Header;
+use records::LINK;
 use records::Part;
 use records::SymbolBlock;
 use records::is_wide;
@@ -22,8 +23,9 @@ ghost use mathlib.Core.Bool.{true, _&&_};
 ghost use Prim.Native.Nat.{ℕ, _+_, _*_, _≤_, _<_};
 ghost use Rattle.numbers.specs.Bytes.{u32At};
 ghost use Rattle.numbers.specs.Below.{first};
-ghost use Rattle.records.specs.Sizes.{indexBlockSize, mapLimit};
+ghost use Rattle.records.specs.Sizes.{indexBlockSize, mapLimit, blockCells};
 ghost use Rattle.slots.specs.Slots.{slotOf, lenGood, bytesIn, bytesInRange};
+ghost use Rattle.chain.specs.Cells.{cellIn};
 ghost use Rattle.chain.specs.Tables.{endsMeet};
 ghost use Rattle.chain.specs.Indexed.{Indexed};
 ghost use Rattle.judge.specs.Rules.{familyIn};
@@ -158,6 +160,27 @@ pub fn block_size(version: u16) -> usize
         return WideSlot::BLOCK;
     }
     IndexBlock::SIZE
+}
+
+// The bytes of a slot.
+pub fn slot_size(version: u16) -> usize
+    ensures { λ r. ⌜ r ≡ familyIn version .slot ⌝ }
+{
+    if is_wide(version) {
+        return WideSlot::SIZE;
+    }
+    Slot::SIZE
+}
+
+// Where slot j of the block that starts at `block` stands.
+pub fn slot_place(version: u16, block: usize, j: usize) -> usize
+    requires { ⌜ (block ≤ 4294967296) × (j < blockCells) ⌝ }
+    ensures { λ r. ⌜ r ≡ cellIn block (familyIn version .slot) j ⌝ }
+{
+    if is_wide(version) {
+        return block + LINK + WideSlot::SIZE * j;
+    }
+    IndexBlock::new(block).slot(j)
 }
 
 // The chain of symbol blocks, as a kind: its blocks keep off the index blocks, which have so many bytes.

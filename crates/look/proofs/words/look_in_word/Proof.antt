@@ -1,4 +1,4 @@
--- `find::look::look_in_word` meets its contract, by the laws of the look at the cells and of their bits. The measure is what is left of the word's slots. Assumes nothing.
+-- `look::words::look_in_word` meets its contract, by the laws of the look at the cells and of their bits. The measure is what is left of the word's slots. Assumes nothing.
 use native.Mathlib.Omega.{arith}
 use Prim.Native.Nat.{_+_, _-_, _≤_}
 use mathlib.Core.Path.{_≡_, refl, sym, ap, _∙_}
@@ -11,16 +11,16 @@ use Rattle.chain.specs.Tables.{endsMeet}
 use Rattle.judge.specs.Judging.{badSlot}
 use Rattle.judge.proofs.States.{fault-free}
 use Rattle.accept.proofs.Looking.{Looking, look-start, look-on, look-found, look-none}
-use Rattle.slots.specs.declared.State.the-variants.{Live}
-use Rattle.find.specs.Searches.{wantedAt}
-use Rattle.find.specs.Looks.{slotFrom, liveFrom}
-use Rattle.find.proofs.Looks.{one-at-most, Looks, looks-start, looks-low, looks-on, looks-past, looks-done, unwanted-free, unwanted-erased, wanted-live}
-use Rattle.find.proofs.look.look_in_word.Statement.{statement}
-use Rattle.find.proofs.look.look_in_word.Tie as tie
+use Rattle.judge.specs.Rules.{narrow}
+use Rattle.look.specs.Found.{liveAt}
+use Rattle.look.specs.Looks.{slotFrom, liveFrom}
+use Rattle.look.proofs.Looks.{one-at-most, Looks, looks-start, looks-low, looks-on, looks-past, looks-done, unwanted-free, unwanted-erased, wanted-live}
+use Rattle.look.proofs.words.look_in_word.Statement.{statement}
+use Rattle.look.proofs.words.look_in_word.Tie as tie
 
 abbrev Inv-loop : tie.InvT-loop
 Inv-loop m used version index from w at₀ bits₀ j₀ at bits j =
-    Looking (slotFrom from) wordBits (badSlot (endsMeet indexBlockSize index) m used version) at j × Looks (liveFrom m w from) bits j
+    Looking (slotFrom slotSize from) wordBits (badSlot (endsMeet indexBlockSize index) m used version) at j × Looks (liveFrom narrow m w from) bits j
 
 abbrev μ-loop : tie.MeasureT-loop
 μ-loop m used version index from w at₀ bits₀ j₀ at bits j = wordBits - j
@@ -29,7 +29,7 @@ loop-holds : tie.Need-loop-holds Inv-loop μ-loop
 unfolding slotFrom
 loop-holds c =
     let a = c .before .before .args in
-    (look-start (omega arith), looks-start (liveFrom (now (a .m)) (a .w) (a .from)))
+    (look-start (omega arith), looks-start (liveFrom narrow (now (a .m)) (a .w) (a .from)))
 
 -- the slot of this turn is one of the word's
 inside : (c : tie.In-loop Inv-loop μ-loop) → c .before .loop .at + slotSize ≤ c .before .before .before .before .args .used
@@ -63,14 +63,14 @@ good c =
     (c .if1 .came)
 
 -- its bit
-found : (c : tie.Joined1 Inv-loop μ-loop) → let l = c .before .before .before .before in let a = l .before .before .before .args in Looks (liveFrom (now (a .m)) (a .w) (a .from)) (c .if1 .bits) (l .loop .j + 1)
+found : (c : tie.Joined1 Inv-loop μ-loop) → let l = c .before .before .before .before in let a = l .before .before .before .args in Looks (liveFrom narrow (now (a .m)) (a .w) (a .from)) (c .if1 .bits) (l .loop .j + 1)
 found c =
     let s = c .before .before in
     let t = s .before in
     let l = t .before .loop in
     let a = t .before .before .before .before .args in
     let h = t .loop-test .taken in
-    let here = ap (wantedAt (now (a .m)) Live (a .w)) (sym (l .inv .0 .here)) in
+    let here = ap (liveAt narrow (now (a .m)) (a .w)) (sym (l .inv .0 .here)) in
     ⊎-elim
     (λ w. rw (w .6) (looks-on (l .inv .1) h (w .5 .result) (here ∙ wanted-live (now (a .m)) (a .w) (l .at) (s .at .ensures) (w .0 .taken) (w .4 .taken) ∙ sym (w .5 .ensures))))
     (⊎-elim

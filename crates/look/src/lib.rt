@@ -1,68 +1,50 @@
 // The look at the slots in one pass: each is judged, and has a bit that says whether the search lists it.
+mod words;
+
 use bits::WORD;
-use judge::bad_slot;
+use judge::slot_place;
+use judge::slot_size;
 use numbers::u16_at;
 use numbers::u32_at;
 use records::Header;
 use records::LINK;
+use records::is_wide;
 use slots::IndexBlock;
-use slots::Slot;
 use windows::Window;
-use windows::meets_window;
+use words::Word;
+use words::look_in_wide_word;
+use words::look_in_word;
 ghost use mathlib.Core.Path.{_≡_};
 ghost use Prim.Native.Nat.{_+_, _*_, _≤_, _<_};
 ghost use lib.ListN.{length};
 ghost use Rattle.numbers.specs.Below.{first, sel};
-ghost use Rattle.records.specs.Sizes.{indexBlockSize, mostBlocks, slotSize, mapLimit, blockCells};
-ghost use Rattle.windows.specs.declared.Window.{Window};
+ghost use Rattle.records.specs.Sizes.{mostBlocks, mapLimit, blockCells};
 ghost use Rattle.bits.specs.Bits.{bitsFrom, wordBits};
 ghost use Rattle.chain.specs.Cells.{cellIn};
-ghost use Rattle.chain.specs.Tables.{endsMeet};
+ghost use Rattle.chain.specs.Indexed.{Indexed};
+ghost use Rattle.judge.specs.Judging.{versionOf};
+ghost use Rattle.judge.specs.Rules.{familyOf};
 ghost use Rattle.accept.specs.declared.JudgedMap.the-variants.{Good, Bad};
-ghost use Rattle.judge.specs.Indexed.{Indexed};
-ghost use Rattle.judge.specs.Judging.{badSlot};
-ghost use Rattle.accept.specs.Opens.{Open};
+ghost use Rattle.accept.specs.Opens.{slotFault, Open};
 ghost use Rattle.accept.specs.Verdicts.{slotsJudged};
-ghost use Rattle.find.specs.Searches.{liveIn, found};
-ghost use Rattle.find.specs.Looks.{blockWords, slotFrom, liveFrom, Marked, SlotsOf};
-
-// What a word's slots are: the first at fault, 64 where none is. Where none is, which of them are live and meet the window, as bits, the first the lowest.
-struct Word {
-    bits: u64,
-    bad: usize,
-}
+ghost use Rattle.look.specs.Found.{liveIn, found};
+ghost use Rattle.look.specs.Looks.{blockWords, slotFrom, liveFrom, Marked, SlotsOf};
 
 // The bits of an index block's slots are so many words.
 pub const BLOCK_WORDS: usize = 4;
 
-// The highest bit of a word.
-const HIGH: u64 = 9223372036854775808;
-
-// A word's slots in a row, from a place on: judged, and looked at, up to the first at fault.
-fn look_in_word(m: &[u8], used: usize, version: u16, index: &[u32], from: usize, w: Window) -> Word
-    requires { ⌜ (from + wordBits * slotSize ≤ used) × Indexed (now m) used (now index) ⌝ }
-    ensures { λ r. ⌜ (r .bad ≡ first (λ j. badSlot (endsMeet indexBlockSize (now (index .entry))) (now (m .entry)) used version (slotFrom from j)) wordBits)
-        × (r .bad ≡ wordBits → r .bits ≡ bitsFrom (liveFrom (now (m .entry)) w from) 0 wordBits) ⌝ }
+// A word's slots in a row, in the layout of the version.
+fn look_in_row(m: &[u8], used: usize, version: u16, index: &[u32], from: usize, w: Window) -> Word
+    requires { ⌜ (version ≡ versionOf (now m)) × (from + wordBits * familyOf (now m) .slot ≤ used)
+        × Indexed (familyOf (now m) .block) (now m) used (now index) ⌝ }
+    ensures { λ r. ⌜ (r .bad
+        ≡ first (λ j. slotFault version (now (m .entry)) used (now (index .entry)) (slotFrom (familyOf (now (m .entry)) .slot) from j)) wordBits)
+        × (r .bad ≡ wordBits → r .bits ≡ bitsFrom (liveFrom (familyOf (now (m .entry))) (now (m .entry)) w from) 0 wordBits) ⌝ }
 {
-    let mut at = from;
-    let mut bits = 0u64;
-    let mut j = 0usize;
-    while j < WORD {
-        let t = Slot::at(m, at);
-        bits = bits / 2;
-        if t.len != 0 {
-            if bad_slot(m, used, version, index, t) {
-                return Word { bits, bad: j };
-            }
-            if t.sym != 0 {
-                let hit = meets_window(t, w);
-                bits += hit as u64 * HIGH;
-            }
-        }
-        at += Slot::SIZE;
-        j += 1;
+    if is_wide(version) {
+        return look_in_wide_word(m, used, index, from, w);
     }
-    Word { bits, bad: WORD }
+    look_in_word(m, used, version, index, from, w)
 }
 
 // What the slots of a block, or of all blocks, are: the first at fault; and, where none is, how many are found.
@@ -84,25 +66,20 @@ fn look_in_block(
     words: &mut [u64],
     before: usize,
 ) -> Looked
-    requires { ⌜ (block + indexBlockSize ≤ used) × Indexed (now m) used (now index) × SlotsOf (now m) block (blockCells * k) × (k < mostBlocks)
-        × (blockWords * k + blockWords ≤ length (now words)) × (before ≡ length (sel (liveIn (now m) w) (blockCells * k)))
-        × Marked (now m) w (now words) (blockWords * k) ⌝ }
+    requires { ⌜ (version ≡ versionOf (now m)) × (block + familyOf (now m) .block ≤ used) × Indexed (familyOf (now m) .block) (now m) used (now index)
+        × SlotsOf (now m) block (blockCells * k) × (k < mostBlocks) × (blockWords * k + blockWords ≤ length (now words))
+        × (before ≡ length (sel (liveIn (now m) w) (blockCells * k))) × Marked (now m) w (now words) (blockWords * k) ⌝ }
     ensures { λ r. ⌜ (r .bad
-        ≡ first (λ j. badSlot (endsMeet indexBlockSize (now (index .entry))) (now (m .entry)) used version (cellIn block slotSize j)) blockCells)
+        ≡ first (λ j. slotFault version (now (m .entry)) used (now (index .entry)) (cellIn block (familyOf (now (m .entry)) .slot) j)) blockCells)
         × (r .bad ≡ blockCells → (r .count ≡ length (sel (liveIn (now (m .entry)) w) (blockCells * k + blockCells)))
         × Marked (now (m .entry)) w (now (words .exit)) (blockWords * k + blockWords)) ⌝ }
 {
+    let row = WORD * slot_size(version);
+    let mut from = block + LINK;
     let mut count = before;
     let mut q = 0usize;
     while q < BLOCK_WORDS {
-        let x = look_in_word(
-            m,
-            used,
-            version,
-            index,
-            block + LINK + WORD * Slot::SIZE * q,
-            w,
-        );
+        let x = look_in_row(m, used, version, index, from, w);
         if x.bad < WORD {
             return Looked {
                 bad: WORD * q + x.bad,
@@ -111,6 +88,7 @@ fn look_in_block(
         }
         words[BLOCK_WORDS * k + q] = x.bits;
         count += u64::count_ones(x.bits) as usize;
+        from += row;
         q += 1;
     }
     Looked {
@@ -141,7 +119,7 @@ pub fn look_in_slots(
         let seen = look_in_block(m, used, version, index, at, k, w, words, count);
         if seen.bad < IndexBlock::SLOTS {
             return Looked {
-                bad: IndexBlock::new(at).slot(seen.bad),
+                bad: slot_place(version, at, seen.bad),
                 count,
             };
         }
