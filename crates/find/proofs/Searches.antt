@@ -27,21 +27,20 @@ use Rattle.numbers.specs.Coordinates.{valueOf}
 use Rattle.numbers.proofs.Below.{never, sel-less}
 use Rattle.numbers.proofs.Bytes.{getD-sets-high, getD-sets-in}
 use Rattle.windows.specs.declared.Window.{Window}
-use Rattle.slots.specs.declared.State.{State}
-use Rattle.slots.specs.declared.State.the-variants.{Free, Erased, Live}
-use Rattle.slots.specs.Slots.{slotOf, stateOf, sameState}
-use Rattle.windows.specs.Windows.{windowGood, meetsWindow}
+use Rattle.windows.specs.declared.Rectangle.{Rectangle}
+use Rattle.windows.specs.Windows.{windowGood, rectangleAt, meetsWindow}
 use Rattle.chain.specs.Chains.{walked}
 use Rattle.chain.specs.declared.Walk.the-variants.{Blocks}
 use Rattle.accept.specs.declared.Verdict.{Verdict}
 use Rattle.accept.specs.declared.Verdict.the-variants as verdicts
-use Rattle.judge.specs.Rules.{indexRule, slotAt}
+use Rattle.judge.specs.Rules.{familyOf, indexRuleOf, slotAtOf}
 use Rattle.judge.specs.Judging.{lengthGood}
 use Rattle.accept.specs.Verdicts.{headerJudged, verdict}
-use Rattle.accept.proofs.Accepting.{accepted-tells}
+use Rattle.accept.proofs.Accepting.{verdict-tells}
+use Rattle.look.specs.Found.{liveAt, liveIn, slotsFor, found}
 use Rattle.find.specs.declared.SearchAnswer.{SearchAnswer}
 use Rattle.find.specs.declared.SearchAnswer.the-variants.{Found, Short, Refused}
-use Rattle.find.specs.Searches.{numberOf, countOf, checkedLength, wantedAt, liveIn, slotsFor, found, answerFor, answerOf, listFor, listAfter, Searched, In}
+use Rattle.find.specs.Searches.{numberOf, countOf, checkedLength, answerFor, answerOf, listFor, listAfter, Searched, In}
 use Rattle.find.proofs.Selected.{sel-in, sel-ascends, sel-at}
 
 -- ---- which slots are listed
@@ -59,11 +58,11 @@ ascending m n w = sel-ascends (liveIn m w) (256 * n)
 
 -- slot s is live, and its rectangle and the window share a point
 pub record Meets (m : List ℕ) (w : Window) (s : ℕ) : Type 0 where
-  pub live : stateOf (slotOf m (slotAt m s)) ≡ Live
-  pub left : valueOf (slotOf m (slotAt m s) .left) ≤ℤ w .right
-  pub right : w .left ≤ℤ valueOf (slotOf m (slotAt m s) .right)
-  pub bottom : valueOf (slotOf m (slotAt m s) .bottom) ≤ℤ w .top
-  pub top : w .bottom ≤ℤ valueOf (slotOf m (slotAt m s) .top)
+  pub live : familyOf m .live m (slotAtOf (familyOf m) m s) ≡ true
+  pub left : valueOf (rectangleAt m (slotAtOf (familyOf m) m s) .left) ≤ℤ w .right
+  pub right : w .left ≤ℤ valueOf (rectangleAt m (slotAtOf (familyOf m) m s) .right)
+  pub bottom : valueOf (rectangleAt m (slotAtOf (familyOf m) m s) .bottom) ≤ℤ w .top
+  pub top : w .bottom ≤ℤ valueOf (rectangleAt m (slotAtOf (familyOf m) m s) .top)
 
 le-is : (a b : ℤ) → (leZ a b ≡ true) ↔ (a ≤ℤ b)
 le-is a b = (λ e. record { le = rw e tt }, λ h. go (leZ a b) (h .le))
@@ -72,22 +71,18 @@ le-is a b = (λ e. record { le = rw e tt }, λ h. go (leZ a b) (h .le))
     go true h = refl
     go false h = absurd h
 
-live-state : (t : State) → sameState Live t ≡ true → t ≡ Live
-live-state Free e = absurd (never (sym e))
-live-state Erased e = absurd (never (sym e))
-live-state Live e = refl
-
 pub live-is : (m : List ℕ) (w : Window) (s : ℕ) → (liveIn m w s ≡ true) ↔ Meets m w s
-unfolding wantedAt meetsWindow
+unfolding liveAt meetsWindow
 live-is m w s = (
   λ e.
-      let t = slotOf m (slotAt m s) in
-      let a = and-eq-true-iff (sameState Live (stateOf t)) (meetsWindow t w) .0 e in
-      let b = and-eq-true-iff (leZ (valueOf (t .left)) (w .right)) _ .0 (a .1) in
-      let c = and-eq-true-iff (leZ (w .left) (valueOf (t .right))) _ .0 (b .1) in
-      let d = and-eq-true-iff (leZ (valueOf (t .bottom)) (w .top)) _ .0 (c .1) in
+      let p = slotAtOf (familyOf m) m s in
+      let r : Rectangle = rectangleAt m p in
+      let a = and-eq-true-iff (familyOf m .live m p) (meetsWindow r w) .0 e in
+      let b = and-eq-true-iff (leZ (valueOf (r .left)) (w .right)) _ .0 (a .1) in
+      let c = and-eq-true-iff (leZ (w .left) (valueOf (r .right))) _ .0 (b .1) in
+      let d = and-eq-true-iff (leZ (valueOf (r .bottom)) (w .top)) _ .0 (c .1) in
       record {
-        live = live-state (stateOf t) (a .0);
+        live = a .0;
         left = le-is _ _ .0 (b .0);
         right = le-is _ _ .0 (c .0);
         bottom = le-is _ _ .0 (d .0);
@@ -145,8 +140,8 @@ found-tells m used w room {c} {b} h = go (verdict m used) refl h
         let k = cases-found (windowGood w) (ltb room (length (found m n w))) (length (found m n w)) n f in
         rw (← k .2, ← k .3) (record { accepted = e; window = k .0; counted = refl; fits = ltb-false room (length (found m n w)) (k .1) })
 
-pub blocks-walked : (m : List ℕ) (used : ℕ) (w : Window) (room : ℕ) {c b : ℕ} → answerOf m used w room ≡ Found c b → walked (indexRule m) m used ≡ Blocks b
-blocks-walked m used w room {b} e = accepted-tells m used b (found-tells m used w room e .accepted) .index
+pub blocks-walked : (m : List ℕ) (used : ℕ) (w : Window) (room : ℕ) {c b : ℕ} → answerOf m used w room ≡ Found c b → walked (indexRuleOf (familyOf m) m) m used ≡ Blocks b
+blocks-walked m used w room {b} e = verdict-tells m used b (found-tells m used w room e .accepted) .index
 
 -- ---- what the lent list holds afterwards
 

@@ -1,35 +1,25 @@
--- The search by rectangle in the first `used` bytes of a buffer m, with a window w and a lent list l.
+-- The search by rectangle in the first `used` bytes of a buffer m, with a window w and a lent list l. Which slots it lists is `found` (`look`, Found).
 --     numberOf, placeOf, countOf, blocksOf    document 01's number, place, count found and blocks walked of an answer. Beside 9, which returns the count
 --                                             needed, every count in a refusal is 0
 --     checkedLength m used       a length that is checked against the limits and the buffer; else 0, which no map has
---     wantedAt m k w p           whether the slot at place p is in state k and its rectangle meets the window; wantedIn m k w s: slot s
---     liveIn m w s               whether slot s is live and its rectangle meets the window
---     slotsFor test n            the slots of n index blocks that pass a test, ascending, each once
---     selected m n k w           those that are in state k and meet the window
---     found m n w                those that the search lists: the live ones that meet the window
 --     answerFor, answerOf        1 to 7 as the check has them; 8: left > right or bottom > top; 9: the list is shorter than the count
 --     In x l                     x stands in the list l
 --     listAfter m used w l       what the lent list holds afterwards: the slots found in its first entries and the rest as it was; after a refusal all as it was
 --     Searched m used w l a after     the search's result: its answer a, and the list afterwards
-use Prim.Native.Nat.{ℕ, _*_, _<_}
-use mathlib.Core.Bool.{Bool, cond, _&&_}
+use Prim.Native.Nat.{ℕ, _<_}
+use mathlib.Core.Bool.{Bool, cond}
 use mathlib.Core.Path.{_≡_}
 use mathlib.Core.List.{List}
 use lib.Dec.{ltb}
 use lib.ListN.{length, getD}
 use lib.Seq.{sets}
-use Rattle.numbers.specs.Below.{sel}
-use Rattle.records.specs.Sizes.{blockCells}
 use Rattle.windows.specs.declared.Window.{Window}
-use Rattle.slots.specs.declared.State.{State}
-use Rattle.slots.specs.declared.State.the-variants.{Live}
-use Rattle.slots.specs.Slots.{slotOf, stateOf, sameState}
-use Rattle.windows.specs.Windows.{windowGood, meetsWindow}
+use Rattle.windows.specs.Windows.{windowGood}
 use Rattle.accept.specs.declared.Verdict.{Verdict}
 use Rattle.accept.specs.declared.Verdict.the-variants as verdicts
-use Rattle.judge.specs.Rules.{slotAt}
 use Rattle.judge.specs.Judging.{lengthGood}
 use Rattle.accept.specs.Verdicts.{verdict}
+use Rattle.look.specs.Found.{found}
 use Rattle.find.specs.declared.SearchAnswer.{SearchAnswer}
 use Rattle.find.specs.declared.SearchAnswer.the-variants.{Found, Short, Refused}
 
@@ -55,24 +45,6 @@ blocksOf (Refused n p) = 0
 
 unfoldable pub checkedLength : List ℕ → ℕ → ℕ
 checkedLength m used = cond (lengthGood m used) used 0
-
-unfoldable pub wantedAt : List ℕ → State → Window → ℕ → Bool
-wantedAt m k w p = sameState k (stateOf (slotOf m p)) && meetsWindow (slotOf m p) w
-
-abbrev pub wantedIn : List ℕ → State → Window → ℕ → Bool
-wantedIn m k w s = wantedAt m k w (slotAt m s)
-
-abbrev pub liveIn : List ℕ → Window → ℕ → Bool
-liveIn m w s = wantedIn m Live w s
-
-unfoldable pub slotsFor : (ℕ → Bool) → ℕ → List ℕ
-slotsFor test n = sel test (blockCells * n)
-
-abbrev pub selected : List ℕ → ℕ → State → Window → List ℕ
-selected m n k w = slotsFor (wantedIn m k w) n
-
-abbrev pub found : List ℕ → ℕ → Window → List ℕ
-found m n w = selected m n Live w
 
 unfoldable pub answerFor : Verdict → (ℕ → List ℕ) → Bool → ℕ → SearchAnswer
 -- 1 to 7: the check's

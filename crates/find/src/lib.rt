@@ -1,6 +1,4 @@
 // The search by rectangle: one pass over the slots, which judges each and has a bit for it, and then the list of the bits that are 1.
-mod look;
-
 use accept::OpenedMap;
 use accept::Verdict;
 use accept::open_map;
@@ -19,8 +17,8 @@ ghost use Rattle.windows.specs.declared.Window.{Window};
 ghost use Rattle.windows.specs.Windows.{windowGood};
 ghost use Rattle.accept.specs.Opens.{Open, Opens, openedOf};
 ghost use Rattle.accept.specs.declared.OpenedMap.the-variants.{Blocks};
+ghost use Rattle.look.specs.Looks.{blockWords};
 ghost use Rattle.find.specs.Searches.{numberOf, placeOf, countOf, blocksOf, checkedLength, answerOf, Searched};
-ghost use Rattle.find.specs.Looks.{blockWords};
 ghost use Rattle.find.specs.Inputs.{SearchedInput};
 
 // What a search answers: the count found and the blocks walked; or the count that the list is too short for; or a refusal.

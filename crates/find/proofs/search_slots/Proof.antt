@@ -1,7 +1,7 @@
 -- `find::search_slots` meets its contract: each array of words has enough for each block. Assumes nothing.
 use native.Mathlib.Omega.{arith}
 use borrow.Author.Needs.{needs}
-use Rattle.find.proofs.Looks.{open-few}
+use Rattle.look.proofs.Looks.{open-few}
 use Rattle.find.proofs.search_slots.Statement.{statement}
 use Rattle.find.proofs.search_slots.Tie as tie
 

@@ -10,9 +10,9 @@ use Rattle.records.specs.Sizes.{mostBlocks}
 use Rattle.bits.specs.Bits.{onesIn, wordBits}
 use Rattle.accept.specs.declared.JudgedMap.the-variants.{Good}
 use Rattle.accept.specs.Verdicts.{slotsJudged}
-use Rattle.find.specs.Looks.{blockWords, Marked}
-use Rattle.find.specs.Searches.{liveIn, found}
-use Rattle.find.proofs.Looks.{slots-low, marked-found, open-judged, open-few}
+use Rattle.look.specs.Looks.{blockWords, Marked}
+use Rattle.look.specs.Found.{liveIn, found}
+use Rattle.look.proofs.Looks.{slots-low, marked-found, open-judged, open-few}
 use Rattle.find.proofs.Searches.{answer-refused, answer-short, answer-found, answers}
 use Rattle.find.proofs.search_words.Statement.{statement}
 use Rattle.find.proofs.search_words.Tie as tie
