@@ -3,12 +3,16 @@
 use find::SearchAnswer;
 use libc::STDIN_FILENO;
 use libc::STDOUT_FILENO;
+use judge::slot_place;
+use numbers::u16_at;
 use numbers::u32_at;
 use records::Header;
+use records::is_wide;
 use slots::IndexBlock;
 use slots::Slot;
+use wide::WideSlot;
 use windows::Window;
-ghost use Prim.Native.Nat.{_<_};
+ghost use Prim.Native.Nat.{_+_, _≤_, _<_};
 
 // A word, a number and a newline.
 fn write_line(word: &[u8], n: u32) {
@@ -17,13 +21,15 @@ fn write_line(word: &[u8], n: u32) {
     io::write_all(STDOUT_FILENO, b"\n");
 }
 
-// A Sym, with its sign.
-fn write_sym(sym: u16) {
-    if sym < 32768 {
-        io::print_decimal(STDOUT_FILENO, sym as u64);
+// A Sym of 16 bits, or one of 32 bits, with its sign: from half the range on it is negative.
+fn write_sym(sym: u64, half: u64)
+    requires { ⌜ (half ≤ 2147483648) × (sym < half + half) ⌝ }
+{
+    if sym < half {
+        io::print_decimal(STDOUT_FILENO, sym);
     } else {
         io::write_all(STDOUT_FILENO, b"-");
-        io::print_decimal(STDOUT_FILENO, 65536 - sym as u64);
+        io::print_decimal(STDOUT_FILENO, half + half - sym);
     }
 }
 
@@ -53,10 +59,16 @@ fn block_at(m: &[u8], k: usize) -> usize
     at
 }
 
-// The line of a slot: its number, its Sym and its position.
-fn write_slot(m: &[u8], s: u32) {
-    let block = IndexBlock::new(block_at(m, s as usize / 256));
-    let at = block.slot(s as usize % 256);
+// The version of a map, or 0 where it is too short for one.
+fn version_of(m: &[u8]) -> u16 {
+    if m.len() < Header::SIZE {
+        return 0;
+    }
+    u16_at(m, Header::VERSION)
+}
+
+// The Sym and the position of the slot at a place, in 6 to 8.
+fn write_narrow(m: &[u8], at: usize) {
     if m.len() < Slot::SIZE {
         return;
     }
@@ -64,10 +76,35 @@ fn write_slot(m: &[u8], s: u32) {
         return;
     }
     let t = Slot::at(m, at);
+    write_sym(t.sym as u64, 32768);
+    write_line(b" ", t.position);
+}
+
+// And in 9 to 11.
+fn write_wide(m: &[u8], at: usize) {
+    if m.len() < WideSlot::SIZE {
+        return;
+    }
+    if m.len() - WideSlot::SIZE < at {
+        return;
+    }
+    let t = WideSlot::at(m, at);
+    write_sym(t.sym as u64, 2147483648);
+    write_line(b" ", t.position);
+}
+
+// The line of a slot: its number, its Sym and its position.
+fn write_slot(m: &[u8], s: u32) {
+    let version = version_of(m);
+    let block = block_at(m, s as usize / 256);
+    let at = slot_place(version, block, s as usize % 256);
     io::print_decimal(STDOUT_FILENO, s as u64);
     io::write_all(STDOUT_FILENO, b" ");
-    write_sym(t.sym);
-    write_line(b" ", t.position);
+    if is_wide(version) {
+        write_wide(m, at);
+    } else {
+        write_narrow(m, at);
+    }
 }
 
 // The lines of the first slots of a list.
