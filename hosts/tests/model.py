@@ -2,7 +2,8 @@
 
 Each call takes the lent bytes and returns all that the C interface gives back: the number,
 the place, the counts, and every lent byte as it is afterwards. Nothing lent is changed in
-place. Quotations are from document 01.
+place. Quotations are from document 01, and of 9 to 11 from document 02 f), whose fields are
+those of source documents 003, 001 and 004.
 """
 
 from __future__ import annotations
@@ -17,21 +18,21 @@ Bytes = Union[bytes, bytearray]
 HEADER_SIZE = 48
 LENGTH_LIMIT = 16_777_216
 # "The size of each kind of record belongs to that kind and is written once"
-INDEX_BLOCK_SIZE = 6_148
-SLOT_SIZE = 24
 SYMBOL_BLOCK_SIZE = 1_028
 OBJECT_HEADER_SIZE = 32
+LONG_HEADER_SIZE = 40  # of an object in 9 to 11 where Len is its bytes
 PAIR_SIZE = 8
 RECORD_SIZE = 16
 LINK_SIZE = 4
 PLACES = 256  # slots in an index block, positions in a symbol block
 LEAST_OBJECT = 40  # "An object is 40 bytes or more"
-LEAST_SYMBOL = 348  # "whose signed 16-bit Size is 348 or more"
 JOURNAL_LIMIT = 65_536  # "A journal is at most 65,536 bytes"
 MOST_PAIRS_67 = 8_187  # "k at most 8,187 in 6 and 7 (Len 65,528)"
 MOST_PAIRS_8 = 32_768  # "and 32,768 in 8"
 MARK = 3245
 VERSION_PAIRS = {(6, 0), (7, 7), (8, 2), (8, 3)}  # version and section mark
+FILE_TYPES = {9: (0, 1, 3), 10: (0, 1, 3), 11: (0, 1, 8)}  # listed, by version
+NORMAL, HIDDEN = 1, 2  # "a status byte that tells deleted from normal and hidden"
 PROGRAM_LIMIT = 65_536  # "a map of at most 65,536 bytes from standard input"
 
 # Places in the header of what the refusals name.
@@ -41,14 +42,34 @@ SLOT_SYM_AT = 22
 ADD, REMOVE, REINSTATE = 1, 2, 3  # "kind (1 add, 2 remove, 3 reinstate)"
 
 HEADER_FORM = struct.Struct("<4H10i")
-SLOT_FORM = struct.Struct("<5iHh")
 ENTRIES_FORM = struct.Struct("<256i")
-OBJECT_FORM = struct.Struct("<hBBHH")
 PAIR_FORM = struct.Struct("<2i")
 RECORD_FORM = struct.Struct("<IB3sI4s")
 WINDOW_FORM = struct.Struct("<4i")
 I16 = struct.Struct("<h")
 I32 = struct.Struct("<i")
+
+
+class Layout(NamedTuple):
+    """What a family of versions has in a layout of its own."""
+
+    block_size: int  # an index block: the link, then 256 slots
+    slot_form: struct.Struct  # the numbers of a Slot
+    object_form: struct.Struct  # the numbers of an ObjectHeader
+    most_type: int  # the types of objects are 1 to this
+    symbol_form: struct.Struct  # the Size of a symbol record
+    least_symbol: int  # the least Size
+
+
+# 6 to 8: "index block 6,148", "slot 24", "signed 16-bit Size is 348 or more". Setup and info
+# are there, and maps are edited, in this layout alone.
+OLD = Layout(6_148, struct.Struct("<5iHh"), struct.Struct("<hBxHH"), 5, I16, 348)
+# 9 to 11: "their own slot of 40 bytes in a block of 10,244, 32-bit symbol numbers, symbol
+# records of 572 bytes or more by a 32-bit Size, and a status byte". In the slot: position at
+# 16, Len at 20, Sym at 24, status at 30. In the object: Sym at 0, type at 4, nItem at 8, nText
+# at 12.
+NEW = Layout(10_244, struct.Struct("<5iIi2xB9x"), struct.Struct("<iB3xIH"), 7, I32, 572)
+LAYOUTS = {6: OLD, 7: OLD, 8: OLD, 9: NEW, 10: NEW, 11: NEW}
 
 
 class CheckResult(NamedTuple):
@@ -91,7 +112,8 @@ class Refused(Exception):
 
 
 class Header(NamedTuple):
-    """"Header, 48 bytes": four 16-bit numbers, then ten signed 32-bit ones."""
+    """"Header, 48 bytes": four 16-bit numbers, then ten signed 32-bit ones. In 9 to 11 the
+    byte at 2 is the file type, and "no setup or info there"."""
 
     mark: int
     section: int
@@ -110,7 +132,8 @@ class Header(NamedTuple):
 
 
 class Slot(NamedTuple):
-    """"A slot holds left, bottom, right, top, position, Len and Sym"."""
+    """"A slot holds left, bottom, right, top, position, Len and Sym", and in 9 to 11 a
+    status."""
 
     left: int
     bottom: int
@@ -119,6 +142,15 @@ class Slot(NamedTuple):
     position: int
     len: int
     sym: int
+    status: Optional[int] = None
+
+    @property
+    def live(self) -> bool:
+        """"Both not 0: live", Len and Sym; in 9 to 11 normal and hidden, "both live if Len
+        isn't 0; nothing else is"."""
+        if self.status is None:
+            return self.len != 0 and self.sym != 0
+        return self.len != 0 and self.status in (NORMAL, HIDDEN)
 
 
 class Record(NamedTuple):
@@ -132,11 +164,11 @@ class Record(NamedTuple):
 
 
 class ObjectHeader(NamedTuple):
-    """"Sym at 0, type at 2, Unicode mark at 3, nItem at 4 and nText at 6"."""
+    """"Sym at 0, type at 2, nItem at 4 and nText at 6", in 9 to 11 where their layout has
+    them; both counts "read as unsigned"."""
 
     sym: int
     type: int
-    unicode: int
     items: int
     texts: int
 
@@ -152,6 +184,7 @@ class Opened(NamedTuple):
     data: Bytes
     used: int
     version: int
+    layout: Layout
     chain: list[int]
 
 
@@ -205,55 +238,63 @@ def inside(start: int, size: int, used: int) -> bool:
 def judge(data: Bytes, used: int) -> Opened:
     """Open the map, or raise its first refusal in the order 1 to 7."""
     header = judge_header(data, used)
-    judge_area(header.setup, header.setup_size, used, SETUP_AT)
-    judge_area(header.info, header.info_size, used, INFO_AT)
-    chain, index = walk_index(data, used, header)
-    walk_symbols(data, used, header.symbols, index)
-    opened = Opened(data, used, header.version, chain)
-    for number, slot in taken_slots(data, chain):
-        if slot.sym != 0 and not good_slot(opened, slot, index):
-            raise Refused(7, slot_place(chain, number))
+    layout = LAYOUTS[header.version]
+    areas = judge_areas(header, used) if layout is OLD else []
+    chain, index = walk_index(data, used, header.index, layout.block_size, areas)
+    walk_symbols(data, used, header.symbols, layout, index)
+    opened = Opened(data, used, header.version, layout, chain)
+    for number, slot in taken_slots(opened):
+        if slot.live and not good_slot(opened, slot, index):
+            raise Refused(7, slot_place(opened, number))
     return opened
 
 
 def judge_header(data: Bytes, used: int) -> Header:
-    """"length under 48 or over the limit, or past the buffer", "mark", "version pair"."""
+    """"length under 48 or over the limit, or past the buffer", "mark", "version pair"; "3
+    also for a file type that the version's document doesn't list"."""
     if used < HEADER_SIZE or used > LENGTH_LIMIT or used > len(data):
         raise Refused(1)
     header = Header._make(HEADER_FORM.unpack_from(data, 0))
     if header.mark != MARK:
         raise Refused(2)
-    if (header.version, header.section) not in VERSION_PAIRS:
+    if header.version in FILE_TYPES:
+        known = header.section % 256 in FILE_TYPES[header.version]
+    else:
+        known = (header.version, header.section) in VERSION_PAIRS
+    if not known:
         raise Refused(3)
     return header
 
 
-def judge_area(position: int, size: int, used: int, place: int) -> None:
-    """"size 0 means absent, whatever the position. Otherwise size is positive, position
-    is at least 48, and position plus size is at most the length."""
-    if size != 0 and (size < 0 or not inside(position, size, used)):
-        raise Refused(4, place)
+def judge_areas(header: Header, used: int) -> list[tuple[int, int]]:
+    """Setup and info, those that are there: "size 0 means absent, whatever the position.
+    Otherwise size is positive, position is at least 48, and position plus size is at most the
+    length"."""
+    areas: list[tuple[int, int]] = []
+    for position, size, place in (
+        (header.setup, header.setup_size, SETUP_AT),
+        (header.info, header.info_size, INFO_AT),
+    ):
+        if size < 0 or (size > 0 and not inside(position, size, used)):
+            raise Refused(4, place)
+        if size > 0:
+            areas.append((position, size))
+    return areas
 
 
-def walk_index(data: Bytes, used: int, header: Header) -> tuple[list[int], Blocks]:
+def walk_index(
+    data: Bytes, used: int, first: int, size: int, areas: Sequence[tuple[int, int]]
+) -> tuple[list[int], Blocks]:
     """"Each index block starts at 48 or later, lies inside the map, and shares no byte
     with setup, info or an earlier index block"; the place is that of the link."""
-    areas = [
-        (position, size)
-        for position, size in (
-            (header.setup, header.setup_size),
-            (header.info, header.info_size),
-        )
-        if size != 0
-    ]
     chain: list[int] = []
-    earlier = Blocks(INDEX_BLOCK_SIZE)
-    link_at, link = INDEX_LINK_AT, header.index
+    earlier = Blocks(size)
+    link_at, link = INDEX_LINK_AT, first
     while link != 0:
         if (
-            not inside(link, INDEX_BLOCK_SIZE, used)
-            or any(shares(link, INDEX_BLOCK_SIZE, *area) for area in areas)
-            or earlier.meets(link, INDEX_BLOCK_SIZE)
+            not inside(link, size, used)
+            or any(shares(link, size, *area) for area in areas)
+            or earlier.meets(link, size)
         ):
             raise Refused(5, link_at)
         chain.append(link)
@@ -262,7 +303,9 @@ def walk_index(data: Bytes, used: int, header: Header) -> tuple[list[int], Block
     return chain, earlier
 
 
-def walk_symbols(data: Bytes, used: int, first: int, index: Blocks) -> None:
+def walk_symbols(
+    data: Bytes, used: int, first: int, layout: Layout, index: Blocks
+) -> None:
     """"In 6, a block, its entries, then its link"."""
     earlier = Blocks(SYMBOL_BLOCK_SIZE)
     link_at, link = SYMBOL_LINK_AT, first
@@ -274,50 +317,56 @@ def walk_symbols(data: Bytes, used: int, first: int, index: Blocks) -> None:
         ):
             raise Refused(6, link_at)
         earlier.put(link)
-        judge_entries(data, used, link + LINK_SIZE, index)
+        judge_entries(data, used, link + LINK_SIZE, layout, index)
         link_at, link = link, I32.unpack_from(data, link)[0]
 
 
-def judge_entries(data: Bytes, used: int, first: int, index: Blocks) -> None:
+def judge_entries(
+    data: Bytes, used: int, first: int, layout: Layout, index: Blocks
+) -> None:
     """"A symbol position of 0 is an unused entry"; all 256 are judged in order."""
     for number, position in enumerate(ENTRIES_FORM.unpack_from(data, first)):
-        if position != 0 and not good_symbol(data, used, position, index):
+        if position != 0 and not good_symbol(data, used, position, layout, index):
             raise Refused(6, first + 4 * number)
 
 
-def good_symbol(data: Bytes, used: int, position: int, index: Blocks) -> bool:
+def good_symbol(
+    data: Bytes, used: int, position: int, layout: Layout, index: Blocks
+) -> bool:
     """"at least 48 and points to a record inside the map whose signed 16-bit Size is 348
-    or more, sharing no byte with an index block"."""
-    if not inside(position, I16.size, used):
+    or more, sharing no byte with an index block"; in 9 to 11 "572 bytes or more by a 32-bit
+    Size"."""
+    if not inside(position, layout.symbol_form.size, used):
         return False
-    size: int = I16.unpack_from(data, position)[0]
+    size: int = layout.symbol_form.unpack_from(data, position)[0]
     return (
-        size >= LEAST_SYMBOL
+        size >= layout.least_symbol
         and inside(position, size, used)
         and not index.meets(position, size)
     )
 
 
-def taken_slots(data: Bytes, chain: Sequence[int]) -> Iterator[tuple[int, Slot]]:
+def taken_slots(opened: Opened) -> Iterator[tuple[int, Slot]]:
     """The slots that are not free, ascending: "Len 0: free, whatever Sym is"."""
-    whole = memoryview(data)
-    for place, block in enumerate(chain):
-        part = whole[block + LINK_SIZE : block + INDEX_BLOCK_SIZE]
-        for number, fields in enumerate(SLOT_FORM.iter_unpack(part), place * PLACES):
+    whole = memoryview(opened.data)
+    form = opened.layout.slot_form
+    for place, block in enumerate(opened.chain):
+        part = whole[block + LINK_SIZE : block + opened.layout.block_size]
+        for number, fields in enumerate(form.iter_unpack(part), place * PLACES):
             if fields[5] != 0:
-                yield number, Slot._make(fields)
+                yield number, Slot(*fields)
 
 
-def slot_place(chain: Sequence[int], number: int) -> int:
+def slot_place(opened: Opened, number: int) -> int:
     """"Slot number = block's place in the chain times 256 plus place in the block"."""
-    block = chain[number // PLACES]
-    return block + LINK_SIZE + SLOT_SIZE * (number % PLACES)
+    block = opened.chain[number // PLACES]
+    return block + LINK_SIZE + opened.layout.slot_form.size * (number % PLACES)
 
 
 def read_slot(opened: Opened, number: int) -> Slot:
     """An existing slot."""
-    place = slot_place(opened.chain, number)
-    return Slot._make(SLOT_FORM.unpack_from(opened.data, place))
+    place = slot_place(opened, number)
+    return Slot(*opened.layout.slot_form.unpack_from(opened.data, place))
 
 
 def pair_count(version: int, length: int) -> Optional[int]:
@@ -334,20 +383,40 @@ def object_size(version: int, length: int) -> int:
     return OBJECT_HEADER_SIZE + PAIR_SIZE * length if version == 8 else length
 
 
+def size_by_pairs(version: int, length: int, pairs: int) -> Optional[int]:
+    """The object's bytes where its Len goes with its pairs, None where it does not. In 9 to 11
+    Len counts the pairs, and the object has 32 + 8 x Len bytes; or Len is the bytes of a header
+    of 40 and of the pairs, and the object has Len bytes."""
+    if LAYOUTS[version] is OLD:
+        agrees = pair_count(version, length) == pairs
+        return object_size(version, length) if agrees else None
+    if length == pairs:
+        return OBJECT_HEADER_SIZE + PAIR_SIZE * length
+    return length if length == LONG_HEADER_SIZE + PAIR_SIZE * pairs else None
+
+
 def good_slot(opened: Opened, slot: Slot, index: Blocks) -> bool:
     """The sentence that starts "A live slot is good when"."""
-    pairs = pair_count(opened.version, slot.len)
-    size = object_size(opened.version, slot.len)
     if (
-        pairs is None
-        or value(slot.left) > value(slot.right)
+        value(slot.left) > value(slot.right)
         or value(slot.bottom) > value(slot.top)
-        or not inside(slot.position, size, opened.used)
-        or index.meets(slot.position, size)
+        or not inside(slot.position, LEAST_OBJECT, opened.used)
     ):
         return False
-    header = ObjectHeader._make(OBJECT_FORM.unpack_from(opened.data, slot.position))
-    return header.sym == slot.sym and 1 <= header.type <= 5 and header.pairs == pairs
+    header = read_object(opened.layout, opened.data, slot.position)
+    size = size_by_pairs(opened.version, slot.len, header.pairs)
+    return (
+        size is not None
+        and inside(slot.position, size, opened.used)
+        and not index.meets(slot.position, size)
+        and header.sym == slot.sym
+        and 1 <= header.type <= opened.layout.most_type
+    )
+
+
+def read_object(layout: Layout, data: Bytes, position: int) -> ObjectHeader:
+    """The header of an object whose first bytes are there."""
+    return ObjectHeader._make(layout.object_form.unpack_from(data, position))
 
 
 def check(map_buf: Bytes, used: int) -> CheckResult:
@@ -391,8 +460,8 @@ def find(opened: Opened, window: tuple[int, int, int, int], room: int) -> list[i
         raise Refused(8)
     found = [
         number
-        for number, slot in taken_slots(opened.data, opened.chain)
-        if slot.sym != 0 and touches(slot, window)
+        for number, slot in taken_slots(opened)
+        if slot.live and touches(slot, window)
     ]
     if room < len(found):
         raise Refused(9, count=len(found))
@@ -418,11 +487,11 @@ def search_program(read: bytes) -> bytes:
     if len(read) < size or len(map_buf) > PROGRAM_LIMIT:
         return b"refused 1 at 0\n"
     window = WINDOW_FORM.unpack_from(read)
-    room = [0] * (len(map_buf) // SLOT_SIZE)
+    room = [0] * (len(map_buf) // OLD.slot_form.size)
     got = search(map_buf, len(map_buf), *window, room)
     if got.number != 0:
         return b"refused %d at %d\n" % (got.number, got.place)
-    slots = dict(taken_slots(map_buf, judge(map_buf, len(map_buf)).chain))
+    slots = dict(taken_slots(judge(map_buf, len(map_buf))))
     lines = [b"blocks %d\n" % got.blocks, b"found %d\n" % got.count]
     for number in got.list_after[: got.count]:
         slot = slots[number]
@@ -430,7 +499,7 @@ def search_program(read: bytes) -> bytes:
     return b"".join(lines)
 
 
-# The edits: then 13, repeat or 14, 10 or 12, 11, 15.
+# The edits: then 17 in 9 to 11; 13, repeat or 14, 10 or 12, 11, 15.
 
 
 def add(
@@ -484,10 +553,13 @@ def run_edit(
     plan: Callable[[Opened], Plan],
 ) -> EditResult:
     """An edit of a number and kind; same tells whether the held slot is that of this
-    edit, plan what is to be written. "Every refusal changes no lent byte"."""
+    edit, plan what is to be written. "Every refusal changes no lent byte"; in 9 to 11 it is "17
+    for an edit", "right after 1 to 7"."""
     edit, kind = asked
     try:
         opened = judge(map_buf, used)
+        if opened.layout is not OLD:
+            raise Refused(17)
         records = read_journal(opened, journal)
         if edit == 0:
             raise Refused(13)
@@ -571,12 +643,12 @@ def judge_offered(version: int, offered: Bytes) -> ObjectHeader:
     5, Sym not 0; k at most 8,187 in 6 and 7 and 32,768 in 8"."""
     if len(offered) < OBJECT_HEADER_SIZE:
         raise Refused(10)
-    header = ObjectHeader._make(OBJECT_FORM.unpack_from(offered, 0))
+    header = read_object(OLD, offered, 0)
     most = MOST_PAIRS_8 if version == 8 else MOST_PAIRS_67
     if (
         len(offered) != OBJECT_HEADER_SIZE + PAIR_SIZE * header.pairs
         or header.items < 1
-        or not 1 <= header.type <= 5
+        or not 1 <= header.type <= OLD.most_type
         or header.sym == 0
         or header.pairs > most
     ):
@@ -601,7 +673,7 @@ def least_rectangle(offered: Bytes, items: int) -> tuple[int, int, int, int]:
 def first_free(opened: Opened) -> Optional[int]:
     """"It takes the first free slot in slot order"."""
     next_slot = 0
-    for number, _ in taken_slots(opened.data, opened.chain):
+    for number, _ in taken_slots(opened):
         if number != next_slot:
             break
         next_slot += 1
@@ -615,21 +687,21 @@ def plan_add(opened: Opened, offered: Bytes) -> Plan:
     header = judge_offered(opened.version, offered)
     length = header.pairs if opened.version == 8 else len(offered)
     rectangle = least_rectangle(offered, header.items)
-    fields = SLOT_FORM.pack(*rectangle, opened.used, length, header.sym)
+    fields = OLD.slot_form.pack(*rectangle, opened.used, length, header.sym)
     end = opened.used + len(offered)
     writes = [(opened.used, bytes(offered))]
     slot = first_free(opened)
     if slot is not None:
-        writes.append((slot_place(opened.chain, slot), fields))
+        writes.append((slot_place(opened, slot), fields))
     else:
         slot = PLACES * len(opened.chain)
         last = opened.chain[-1] if opened.chain else INDEX_LINK_AT
         writes += [
             (last, I32.pack(end)),
-            (end, bytes(INDEX_BLOCK_SIZE)),
+            (end, bytes(OLD.block_size)),
             (end + LINK_SIZE, fields),
         ]
-        end += INDEX_BLOCK_SIZE
+        end += OLD.block_size
     if end > len(opened.data) or end > LENGTH_LIMIT:
         raise Refused(11)
     return Plan(slot, end, writes)
@@ -639,8 +711,7 @@ def plan_remove(opened: Opened, at: int) -> Plan:
     """"slot missing or not in the state wanted": a live one is."""
     if not exists(opened, at):
         raise Refused(12)
-    slot = read_slot(opened, at)
-    if slot.len == 0 or slot.sym == 0:
+    if not read_slot(opened, at).live:
         raise Refused(12)
     return plan_sym(opened, at, 0)
 
@@ -663,5 +734,5 @@ def plan_reinstate(opened: Opened, at: int) -> Plan:
 
 def plan_sym(opened: Opened, at: int, sym: int) -> Plan:
     """A slot's Sym written; the length stays."""
-    place = slot_place(opened.chain, at) + SLOT_SYM_AT
+    place = slot_place(opened, at) + SLOT_SYM_AT
     return Plan(at, opened.used, [(place, I16.pack(sym))])

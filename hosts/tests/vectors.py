@@ -200,7 +200,7 @@ def header_rows() -> Iterator[Row]:
     yield "T3", put(E7, (1, b"\0")), 2, 0
     for version, section in ((6, 0), (7, 7), (8, 2), (8, 3)):
         yield "T4", empty(version, section), 0, 0
-    wrong = ((6, 7), (7, 0), (8, 0), (8, 7), (7, 0x0107), (5, 204), (9, 0))
+    wrong = ((6, 7), (7, 0), (8, 0), (8, 7), (7, 0x0107), (5, 204), (12, 0))
     for version, section in wrong:
         yield "T4", empty(version, section), 3, 0
     yield "T5", areas(48, (-1, 0)), 0, 0
