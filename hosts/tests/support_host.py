@@ -32,6 +32,12 @@ if MODEL:
 OBJECT_FORM = struct.Struct("<hBBHH24x")
 PAIR_FORM = struct.Struct("<2i")
 
+# Maps of OCAD 9, 10 and 11.
+LATER_BLOCK, LATER_BLOCK_SIZE = 48, 10_244  # where the small map has its index block
+LATER_OBJECT_FORM = struct.Struct("<iB3xIH26x")  # Sym, type, nItem, nText
+LATER_SLOT_FORM = struct.Struct("<7i2xB9x")  # rectangle, position, Len, Sym, status
+NORMAL, HIDDEN, DELETED, UNDONE = 1, 2, 0, 3  # the status of a slot
+
 
 def object_bytes(
     pairs: Sequence[Tuple[int, int]] = ((5, 5),), sym: int = 101, text: int = 0
@@ -39,6 +45,40 @@ def object_bytes(
     """An object of type 1 whose last ``text`` pairs are text; coordinates by value."""
     head = OBJECT_FORM.pack(sym, 1, 0, len(pairs) - text, text)
     return head + b"".join(PAIR_FORM.pack(256 * x, 256 * y) for x, y in pairs)
+
+
+class Drawn(NamedTuple):
+    """A point in a map of OCAD 9, 10 or 11, and the status of its slot. Len is the 48 bytes of
+    the object, or it is 1 and counts its pairs."""
+
+    sym: int = 101_000
+    status: int = NORMAL
+    at: Tuple[int, int] = (5, 5)
+    len: int = 48
+
+
+def later_map(version: int = 9, drawn: Sequence[Drawn] = (Drawn(),)) -> bytearray:
+    """A map with these objects in its first slots. It has an index block at 48, the objects
+    behind it, and in its header no setup and no info but any bytes where 6 to 8 have them."""
+    data = bytearray(LATER_BLOCK + LATER_BLOCK_SIZE)
+    struct.pack_into("<HBBH", data, 0, 3245, 0, 0xEE, version)
+    struct.pack_into("<i16s", data, 12, LATER_BLOCK, b"\xee" * 16)
+    for number, one in enumerate(drawn):
+        sides = [256 * side for side in one.at]
+        fields = (*sides, *sides, len(data), one.len, one.sym, one.status)
+        LATER_SLOT_FORM.pack_into(data, later_slot(number), *fields)
+        data += LATER_OBJECT_FORM.pack(one.sym, 1, 1, 0) + PAIR_FORM.pack(*sides)
+    return data
+
+
+def later_slot(number: int) -> int:
+    """Where a slot of that map is."""
+    return LATER_BLOCK + 4 + LATER_SLOT_FORM.size * number
+
+
+def later_object(number: int) -> int:
+    """Where the object of a slot of that map is."""
+    return LATER_BLOCK + LATER_BLOCK_SIZE + 48 * number
 
 
 class Ran(NamedTuple):

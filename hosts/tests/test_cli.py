@@ -17,12 +17,17 @@ from typing import Dict, List
 from unittest import mock
 
 from support_host import (
+    DELETED,
+    HIDDEN,
     MODEL,
     PACKAGE_FOLDER,
+    UNDONE,
+    Drawn,
     FolderTest,
     Ran,
     command_line,
     environment,
+    later_map,
     object_bytes,
     run,
 )
@@ -223,11 +228,12 @@ class Json(CliTest):
 
     def check_lists(self) -> None:
         slot = {"number": 0, "state": "live", "sym": 101, "len": 40, "position": 48}
-        slot.update(left=5, bottom=5, right=5, top=5)
+        slot.update(left=5, bottom=5, right=5, top=5, hidden=False)
         found = run("search", self.map, 0, 0, 10, 10, "--json").json()
         self.assertEqual(found, {"result": "found", "count": 1, "blocks": 1, "slots": [slot]})
         shown = run("show", self.map, "--json").json()
-        self.assertEqual((shown["live"], shown["erased"], shown["free"]), (1, 0, 255))
+        counts = {"live": 1, "erased": 0, "free": 255, "hidden": 0}
+        self.assertEqual({state: shown[state] for state in counts}, counts)
         self.assertEqual(shown["slots"], [slot])
         listed = run("journal", self.journal, "--json").json()
         self.assertEqual((listed["used"], listed["size"]), (3, 4_096))
@@ -320,6 +326,114 @@ class Refusals(CliTest):
         before = self.traces()
         self.assertEqual(self.add_bridge().code, DONE)
         self.assertEqual(self.traces(), before)
+
+
+class LaterMaps(CliTest):
+    """OCAD 9, 10 and 11: checked, searched and shown, and not edited."""
+
+    HEADINGS = "slot         state     Sym  Len  position  left  bottom  right  top\n"
+    NORMAL_ROW = "   0          live  101000   48     10292     5       5      5    5\n"
+    HIDDEN_ROW = "   1  live, hidden      -2    1     10340    -7       5     -7    5\n"
+    UNDONE_ROW = "   2        erased       7   48     10388     5       5      5    5\n"
+
+    def setUp(self) -> None:
+        super().setUp()
+        self.journal.write_bytes(taffrail.empty_journal(4))
+        self.draw(9)
+
+    def draw(self, version: int) -> None:
+        """A map with a normal object, a hidden one, and one that OCAD can undo the deleting of."""
+        hidden = Drawn(sym=-2, status=HIDDEN, at=(-7, 5), len=1)
+        self.map.write_bytes(later_map(version, [Drawn(), hidden, Drawn(sym=7, status=UNDONE)]))
+
+    def test_check(self) -> None:
+        for version in (9, 10, 11):
+            self.draw(version)
+            text = f"accepted: OCAD {version}, 10,436 bytes, 1 index block\n"
+            self.assert_done(run("check", self.map), text)
+            accepted = {"result": "accepted", "version": version, "length": 10_436, "blocks": 1}
+            self.assertEqual(run("check", self.map, "--json").json(), accepted)
+
+    def test_search(self) -> None:
+        """Hidden objects are found, and told apart; deleted ones are not found."""
+        rows = self.HEADINGS + self.NORMAL_ROW + self.HIDDEN_ROW
+        found = f"found 2, index blocks walked: 1\n{rows}"
+        self.assert_done(run("search", self.map, -10, 0, 10, 10), found)
+        facts = run("search", self.map, -10, 0, 10, 10, "--json").json()
+        self.assertEqual((facts["count"], facts["blocks"]), (2, 1))
+        told = [(slot["state"], slot["hidden"], slot["sym"]) for slot in facts["slots"]]
+        self.assertEqual(told, [("live", False, 101_000), ("live", True, -2)])
+
+    def test_show(self) -> None:
+        states = "2 live (1 hidden), 1 erased, 253 free"
+        rows = self.HEADINGS + self.NORMAL_ROW + self.HIDDEN_ROW + self.UNDONE_ROW
+        for version in (9, 10, 11):
+            self.draw(version)
+            line = f"OCAD {version}, 10,436 bytes, 1 index block; slots: {states}\n"
+            self.assert_done(run("show", self.map), line + rows)
+        facts = run("show", self.map, "--json").json()
+        counts = {"version": 11, "live": 2, "erased": 1, "free": 253, "hidden": 1}
+        self.assertEqual({name: facts[name] for name in counts}, counts)
+        self.assertEqual([slot["hidden"] for slot in facts["slots"]], [False, True, False])
+        self.assertEqual([slot["state"] for slot in facts["slots"]], ["live", "live", "erased"])
+        self.assertEqual(len(run("show", self.map, "--free").out.splitlines()), 2 + 256)
+
+    def test_show_where_nothing_is_hidden(self) -> None:
+        self.map.write_bytes(later_map(10, [Drawn(), Drawn(status=DELETED)]))
+        line = "OCAD 10, 10,388 bytes, 1 index block; slots: 1 live, 1 erased, 254 free"
+        self.assertEqual(run("show", self.map).out.splitlines()[0], line)
+
+    def test_edits(self) -> None:
+        for version in (9, 10, 11):
+            self.draw(version)
+            before = self.map.read_bytes(), self.journal.read_bytes()
+            reason = (
+                f"its version is OCAD {version}, which is checked and searched here, and not"
+                " edited. Edit it in OCAD, or save it as OCAD 6, 7 or 8 first"
+            )
+            refused = {"result": "refused", "number": 17, "place": 0, "words": taffrail.WORDS[17]}
+            refused.update(file=str(self.map), reason=reason)
+            for name in ("add", "remove", "reinstate"):
+                words = self.commands_on_the_map()[name]
+                told = f"{self.map}: refused 17 at 0: {reason}\n"
+                self.assertEqual(run(*words), Ran(REFUSED, "", told))
+                ran = run(*words, "--json")
+                self.assertEqual((ran.code, ran.err), (REFUSED, ""))
+                self.assertEqual(ran.json(), refused)
+            self.assertEqual((self.map.read_bytes(), self.journal.read_bytes()), before)
+            self.assertEqual(self.names(), ["bridge.object", "city.journal", "city.ocd"])
+
+    def test_the_journal_is_not_looked_at(self) -> None:
+        """Whatever it holds: no edit is made, and the other commands need none."""
+        for journal in (b"", b"\xee" * 17, b"\xee" * 70_000):
+            self.journal.write_bytes(journal)
+            self.assert_refused(self.remove(1, 0), 17)
+            self.assertEqual(run("check", self.map).code, DONE)
+            self.assertEqual(self.journal.read_bytes(), journal)
+        self.journal.unlink()
+        for name in ("check", "search", "show"):
+            self.assertEqual(run(*self.commands_on_the_map()[name]).code, DONE)
+
+    def test_bad_maps(self) -> None:
+        """An edit of a map that is refused by the check gets the check's number."""
+        data = self.map.read_bytes()
+        faults = ((2, 2, 3, 0), (4, 12, 3, 0), (12, 47, 5, 12), (8, 1, 6, 8))
+        for at, wrong, number, place in faults:
+            self.map.write_bytes(data[:at] + bytes([wrong]) + data[at + 1 :])
+            for words in self.commands_on_the_map().values():
+                self.assert_refused(run(*words), number, place)
+
+    def test_new(self) -> None:
+        """They are not made, and the words say so."""
+        path = self.folder / "new.ocd"
+        for version in (9, 10, 11):
+            words = f"{version} is not within 6 to 8; maps of OCAD 9, 10 and 11 are checked,"
+            ran = run("new", path, "--version", version)
+            self.assert_unusable(ran, f"{words} searched and shown, and not made")
+            ran = run("new", path, "--version", version, "--json")
+            self.assertEqual(ran.code, UNUSABLE)
+            self.assertIn(words, ran.json()["message"])
+        self.assertFalse(path.exists())
 
 
 class Usage(CliTest):

@@ -9,10 +9,21 @@ import unittest
 from array import array
 from mmap import mmap
 from pathlib import Path
-from typing import Any, Callable, Tuple
+from typing import Any, Callable, Iterator, Tuple
 from unittest import mock
 
-from support_host import MODEL, PACKAGE_FOLDER, object_bytes
+from support_host import (
+    DELETED,
+    HIDDEN,
+    MODEL,
+    PACKAGE_FOLDER,
+    UNDONE,
+    Drawn,
+    later_map,
+    later_object,
+    later_slot,
+    object_bytes,
+)
 from vectors import COORDINATES
 
 import taffrail
@@ -29,7 +40,7 @@ from taffrail import (
     library,
 )
 
-BLOCK = layout.INDEX_BLOCK_SIZE
+BLOCK = 6_148
 
 
 def with_room(version: int = 7, room: int = 20_000) -> Tuple[bytearray, bytearray]:
@@ -149,8 +160,96 @@ class EveryVersion(unittest.TestCase):
                 self.assertEqual(answer, Done(0, 6_236))
                 slots = list(layout.all_slots(bytes(map_buffer)))
                 self.assertEqual(len(slots), 256)
-                self.assertEqual(slots[0], (0, "live", 101, size, 48, 5, 5, 5, 5))
+                self.assertEqual(slots[0], (0, "live", 101, size, 48, 5, 5, 5, 5, False))
                 self.assertEqual(slots[1].state, "free")
+
+
+class LaterVersions(unittest.TestCase):
+    """OCAD 9, 10 and 11: the check and the search take them, and the edits do not."""
+
+    def test_file_types(self) -> None:
+        for version, listed in ((9, (0, 1, 3)), (10, (0, 1, 3)), (11, (0, 1, 8))):
+            map_buffer = later_map(version)
+            for file_type in range(256):
+                map_buffer[2] = file_type
+                good = file_type in listed
+                answer = taffrail.check(map_buffer)
+                self.assertEqual(answer, Accepted() if good else Refused(3, 0, taffrail.WORDS[3]))
+
+    def test_states(self) -> None:
+        """The status tells what is live, and Len 0 what is free, whatever the Sym."""
+        for status, length, state, hidden in (
+            (1, 48, "live", False),
+            (1, 1, "live", False),
+            (HIDDEN, 48, "live", True),
+            (HIDDEN, 1, "live", True),
+            (DELETED, 48, "erased", False),
+            (UNDONE, 48, "erased", False),
+            (4, 48, "erased", False),
+            (255, -1, "erased", False),
+            (1, 0, "free", False),
+            (HIDDEN, 0, "free", False),
+            (DELETED, 0, "free", False),
+        ):
+            for sym in (101_000, 0, -3):
+                with self.subTest(status=status, length=length, sym=sym):
+                    drawn = Drawn(sym, status, len=length)
+                    map_buffer = later_map(9, [drawn, Drawn()])
+                    slots = list(layout.all_slots(bytes(map_buffer)))
+                    told = (0, state, sym, length, later_object(0), 5, 5, 5, 5, hidden)
+                    self.assertEqual(slots[0], told)
+                    found = (0, 1) if state == "live" else (1,)
+                    answer = taffrail.search(map_buffer, 0, 0, 10, 10)
+                    self.assertEqual(answer, Found(found, 1))
+
+    def test_windows(self) -> None:
+        for version in (9, 10, 11):
+            map_buffer = later_map(version, [Drawn(), Drawn(at=(-300, 7), status=HIDDEN)])
+            self.assertEqual(taffrail.search(map_buffer, 5, 5, 10, 10), Found((0,), 1))
+            self.assertEqual(taffrail.search(map_buffer, 6, 6, 10, 10), Found((), 1))
+            self.assertEqual(taffrail.search(map_buffer, -300, 0, 5, 7), Found((0, 1), 1))
+
+    def test_blocks_and_slots(self) -> None:
+        """A second index block in front of the first: its slots come behind."""
+        first = later_map(11, [Drawn(sym=1)])
+        second = later_map(11, [Drawn(sym=2)])
+        map_buffer = first + second[48:]
+        link, shift = len(first), len(first) - 48
+        struct.pack_into("<i", map_buffer, 12, link)
+        struct.pack_into("<i", map_buffer, link, 48)
+        struct.pack_into("<i", map_buffer, later_slot(0) + shift + 16, later_object(0) + shift)
+        slots = list(layout.all_slots(bytes(map_buffer)))
+        self.assertEqual([slots[0].sym, slots[256].sym], [2, 1])
+        self.assertEqual(len(slots), 512)
+        self.assertEqual(taffrail.search(map_buffer, 0, 0, 10, 10), Found((0, 256), 2))
+
+    def test_edits(self) -> None:
+        """17 comes before all that is the edit's own, and nothing changes."""
+        for version in (9, 10, 11):
+            map_buffer = later_map(version, [Drawn(), Drawn(status=DELETED)])
+            used = len(map_buffer)
+            map_buffer += bytes(20_000)
+            for journal in (bytearray(32), bytearray(), bytearray(15), bytearray(b"\xee" * 64)):
+                before = bytes(map_buffer), bytes(journal)
+                for answer in self.edits(map_buffer, journal, used):
+                    self.assertEqual(answer, Refused(17, 0, taffrail.WORDS[17]))
+                self.assertEqual((bytes(map_buffer), bytes(journal)), before)
+
+    def test_edits_of_a_bad_map(self) -> None:
+        """1 to 7 come before 17."""
+        map_buffer = later_map(10)
+        map_buffer[later_object(0) + 4] = 8
+        for answer in self.edits(map_buffer, bytearray(32), len(map_buffer)):
+            self.assertEqual(answer, Refused(7, later_slot(0), taffrail.WORDS[7]))
+
+    def edits(self, m: bytearray, j: bytearray, used: int) -> Iterator[EditResult]:
+        """The answers to edits that 6 to 8 would do or refuse with 10, 12, 13 or 15."""
+        for edit in (0, 1):
+            yield taffrail.add(m, j, edit, object_bytes(), used=used)
+            yield taffrail.add(m, j, edit, b"", used=used)
+            yield taffrail.remove(m, j, edit, 0, used=used)
+            yield taffrail.remove(m, j, edit, 2**32 - 1, used=used)
+            yield taffrail.reinstate(m, j, edit, 1, used=used)
 
 
 class EveryRefusal(unittest.TestCase):
@@ -177,7 +276,7 @@ class EveryRefusal(unittest.TestCase):
         self.assertEqual(number_of(taffrail.check(taffrail.empty_map(8), used=49)), 1)
         self.assertEqual(number_of(taffrail.check(taffrail.empty_map(8), used=2**63)), 1)
         self.check_spoiled(2, 0, 0, "<h", 3246)
-        self.check_spoiled(3, 0, 4, "<h", 9)
+        self.check_spoiled(3, 0, 4, "<h", 12)
         self.check_spoiled(4, 16, 20, "<i", -1)
         self.check_spoiled(4, 24, 28, "<i", 100)
         self.check_spoiled(5, 12, 12, "<i", -88)
@@ -224,7 +323,7 @@ class EveryRefusal(unittest.TestCase):
         self.assert_number(15, lambda: taffrail.remove(m, empty, 2, 0, used=used), m, empty)
 
     def test_words_are_complete(self) -> None:
-        self.assertEqual(sorted(taffrail.WORDS), list(range(1, 16)))
+        self.assertEqual(sorted(taffrail.WORDS), [*range(1, 16), 17])
 
 
 class Results(unittest.TestCase):
@@ -253,8 +352,9 @@ class NewOnes(unittest.TestCase):
     def test_versions(self) -> None:
         for version in (6, 7, 8):
             self.assertEqual(taffrail.check(taffrail.empty_map(version)), Accepted())
-        for version in (5, 9, -1, 2**70):
-            with self.assertRaisesRegex(ValueError, f"version 6, 7 or 8, not {version}"):
+        for version in (5, 9, 10, 11, 12, -1, 2**70):
+            words = f"a new map has version 6, 7 or 8, not {version}"
+            with self.assertRaisesRegex(ValueError, words):
                 taffrail.empty_map(version)
 
     def test_records(self) -> None:
@@ -449,6 +549,14 @@ class FindingTheLibrary(unittest.TestCase):
             path.write_bytes(b"not a library")
             with self.assertRaisesRegex(LibraryError, "cannot be loaded"):
                 library.NativeLibrary(str(path))
+
+    def test_numbers_that_do_not_exist(self) -> None:
+        """What the library answers is one of the numbers that have words."""
+        for number in (0, *taffrail.WORDS):
+            self.assertEqual(library.known(number), number)
+        for number in (16, 18, 2**32 - 1):
+            with self.assertRaisesRegex(LibraryError, f"answered {number}"):
+                library.known(number)
 
     def test_a_library_without_the_calls(self) -> None:
         import _ctypes

@@ -6,7 +6,16 @@ import struct
 import unittest
 from typing import Any, List
 
-from support_host import FolderTest, object_bytes, run
+from support_host import (
+    PACKAGE_FOLDER,
+    Drawn,
+    FolderTest,
+    later_map,
+    later_object,
+    later_slot,
+    object_bytes,
+    run,
+)
 from support_reasons import RECORD, edit_of, slot_place, small_map
 
 import taffrail
@@ -16,9 +25,7 @@ from taffrail.reasons import Asked, reason_of_check, reason_of_edit, reason_of_s
 REFUSED = 1
 
 
-class Words(unittest.TestCase):
-    """What is said of each fault."""
-
+class WordsTest(unittest.TestCase):
     def assert_reason(self, contents: bytes, number: int, place: int, words: str) -> None:
         answer = taffrail.check(bytes(contents))
         self.assertEqual(answer, Refused(number, place, taffrail.WORDS[number]))
@@ -29,10 +36,14 @@ class Words(unittest.TestCase):
         self, number: int, place: int, words: str, *fields: Any, version: int = 7
     ) -> None:
         """The reason where these fields of the small map (place, form, number) are changed."""
-        contents, _ = small_map(version)
+        contents = later_map(version) if version > 8 else small_map(version)[0]
         for at, form, value in zip(fields[::3], fields[1::3], fields[2::3]):
             struct.pack_into(form, contents, at, value)
         self.assert_reason(contents, number, place, words)
+
+
+class Words(WordsTest):
+    """What is said of each fault."""
 
     def test_the_length(self) -> None:
         self.assert_reason(b"", 1, 0, "x.ocd is empty")
@@ -45,8 +56,9 @@ class Words(unittest.TestCase):
     def test_the_header(self) -> None:
         words = "x.ocd is no OCAD map: it begins with the bytes 23 20, and a map with ad 0c"
         self.assert_reason(b"# ".ljust(48), 2, 0, words)
-        words = "its version is OCAD 9, and taken are OCAD 6, 7 and 8"
-        self.assert_spoiled(3, 0, words, 4, "<H", 9)
+        for version in (5, 12, 65_535):
+            words = f"its version is OCAD {version}, and taken are OCAD 6 to 11"
+            self.assert_spoiled(3, 0, words, 4, "<H", version)
         words = "its section mark is 3, and OCAD 7 has 7"
         self.assert_spoiled(3, 0, words, 2, "<H", 3)
         words = "its section mark is 7, and OCAD 8 has 2 or 3"
@@ -101,21 +113,146 @@ class Words(unittest.TestCase):
 
     def test_slots(self) -> None:
         place, shares = slot_place(0), "shares bytes with the index block at"
+        header = "the object at 48 has nItem 1 and nText"
         for words, *fields in (
             ("left 8,000,000 is past right 5", place, "<i", 256 * 8_000_000),
             ("bottom 6 is past top 5", place + 4, "<i", 6 * 256 + 255),
-            ("Len is 41, and in OCAD 7 it is 40, 48, 56 and so on", place + 20, "<H", 41),
+            (f"Len is 41, and {header} 0, which make it 40", place + 20, "<H", 41),
             ("the object at 47 starts in the header (Len 40)", place + 16, "<i", 47),
             ("the object has the position -1 (Len 40)", place + 16, "<i", -1),
             ("cut short: the object at 6200 ends behind the file (Len 40)", place + 16, "<i", 6200),
             (f"the object at 49 {shares} 88 (Len 40)", place + 16, "<i", 49),
             ("Sym is 7, and the object at 48 has 101", place + 22, "<h", 7),
             ("the object at 48 has type 9, and types are 1 to 5", 50, "<B", 9),
-            ("Len is that of 1 pair, and the object at 48 has nItem 1 and nText 2", 54, "<H", 2),
+            (f"Len is 40, and {header} 2, which make it 56", 54, "<H", 2),
+            ("Len is 32, and an object has 40 bytes at least", place + 20, "<H", 32, 52, "<H", 0),
         ):
             self.assert_spoiled(7, place, f"slot 0: {words}", *fields)
-        words = "slot 0: Len is 32,769 pairs, and 32,768 are the most"
+        words = f"slot 0: Len is 32,769, and {header} 0, which make it 1"
         self.assert_spoiled(7, place, words, place + 20, "<H", 32_769, version=8)
+
+    def test_a_slot_with_too_many_pairs(self) -> None:
+        """In 8 Len can count more pairs than an object may have."""
+        contents, _ = small_map(8)
+        place = slot_place(0)
+        struct.pack_into("<iH", contents, place + 16, len(contents), 32_769)
+        contents += object_bytes([(5, 5)] * 32_769)
+        words = "slot 0: 32,769 pairs, and in OCAD 8 32,768 are the most"
+        self.assert_reason(contents, 7, place, words)
+
+
+class LaterWords(WordsTest):
+    """What is said of each fault in OCAD 9, 10 and 11."""
+
+    def test_file_types(self) -> None:
+        """The byte behind it is any; it would count in 6 to 8."""
+        for version, found, listed in (
+            (9, 2, "0, 1 or 3"),
+            (9, 8, "0, 1 or 3"),
+            (10, 255, "0, 1 or 3"),
+            (11, 3, "0, 1 or 8"),
+        ):
+            words = f"its file type is {found}, and OCAD {version} has {listed}"
+            self.assert_spoiled(3, 0, words, 2, "<B", found, version=version)
+
+    def test_index_blocks(self) -> None:
+        """They are as long as those of 9 to 11, and keep off nothing that 6 to 8 have at 16."""
+        words = "cut short: the index block at 97 ends behind the file"
+        self.assert_spoiled(5, 12, words, 12, "<i", 97, version=9)
+        words = "the index block at 10291 shares bytes with the index block at 48"
+        contents = later_map(10) + bytes(10_244)
+        struct.pack_into("<i", contents, 48, 10_291)
+        self.assert_reason(contents, 5, 48, words)
+        contents = later_map(11)
+        struct.pack_into("<2i", contents, 16, 48, 10_244)
+        self.assertTrue(taffrail.check(contents))
+
+    def test_symbols(self) -> None:
+        contents = later_map(9) + bytes(1_028 + 600)
+        symbols = later_object(1)
+        record, entry = symbols + 1_028, symbols + 4 + 8
+        struct.pack_into("<i", contents, 8, symbols)
+        struct.pack_into("<i", contents, entry, record)
+        told = f"symbol block at {symbols}, entry 2:"
+        thing = f"the symbol record at {record}"
+        for size in (571, 348, 0, -1, -(2**31)):
+            struct.pack_into("<i", contents, record, size)
+            words = f"{told} {thing} has Size {size:,}, and 572 is the least"
+            self.assert_reason(contents, 6, entry, words)
+        for size in (601, 65_536 + 572):
+            struct.pack_into("<i", contents, record, size)
+            words = f"{told} cut short: {thing} ends behind the file"
+            self.assert_reason(contents, 6, entry, words)
+        struct.pack_into("<i", contents, entry, len(contents) - 3)
+        words = f"{told} cut short: the symbol record at {len(contents) - 3} ends behind the file"
+        self.assert_reason(contents, 6, entry, words)
+        struct.pack_into("<i", contents, 10_292 - 500, 572)
+        struct.pack_into("<i", contents, entry, 10_292 - 500)
+        shares = "shares bytes with the index block at 48"
+        self.assert_reason(contents, 6, entry, f"{told} the symbol record at 9792 {shares}")
+
+    def test_slots(self) -> None:
+        place, at = later_slot(0), later_object(0)
+        thing = f"the object at {at}"
+        neither = f"{thing} has nItem 1 and nText 0, which make it 1 or 48"
+        shares = "shares bytes with the index block at 48"
+        for words, *fields in (
+            ("left 8,000,000 is past right 5", place, "<i", 256 * 8_000_000),
+            ("bottom 6 is past top 5", place + 4, "<i", 6 * 256 + 255),
+            ("the object at 47 starts in the header (Len 48)", place + 16, "<i", 47),
+            ("the object has the position -1 (Len 48)", place + 16, "<i", -1),
+            (f"the object at 10291 {shares} (Len 48)", place + 16, "<i", at - 1),
+            ("Sym is 65637, and the object at 10292 has 101000", place + 24, "<i", 65_637),
+            ("Sym is -3, and the object at 10292 has 101000", place + 24, "<i", -3),
+            ("Sym is 0, and the object at 10292 has 101000", place + 24, "<i", 0),
+            (f"{thing} has type 8, and types are 1 to 7", at + 4, "<B", 8),
+            (f"{thing} has type 0, and types are 1 to 7", at + 4, "<B", 0),
+            (f"Len is 47, and {neither}", place + 20, "<i", 47),
+            (f"Len is 49, and {neither}", place + 20, "<i", 49),
+            (f"Len is 40, and {neither}", place + 20, "<i", 40),
+            (f"Len is -1, and {neither}", place + 20, "<i", -1),
+            (f"Len is 65,537, and {neither}", place + 20, "<i", 65_537),
+        ):
+            for version in (9, 10, 11):
+                self.assert_spoiled(7, place, f"slot 0: {words}", *fields, version=version)
+
+    def test_counts_are_wide_and_have_no_sign(self) -> None:
+        """Cut to 32 bits, or read with a sign, the pairs of the second would be one."""
+        place, at = later_slot(0), later_object(0)
+        for items, texts, lens in (
+            (2, 0, "2 or 56"),
+            (2**32 - 1, 2, "4,294,967,297 or 34,359,738,416"),
+        ):
+            header = f"the object at {at} has nItem {items:,} and nText {texts}"
+            words = f"slot 0: Len is 1, and {header}, which make it {lens}"
+            fields = (place + 20, "<i", 1, at + 8, "<I", items, at + 12, "<H", texts)
+            self.assert_spoiled(7, place, words, *fields, version=9)
+
+    def test_the_end_of_an_object(self) -> None:
+        """Its bytes are Len, or 32 and 8 for each pair that Len counts."""
+        for length, needed in ((48, 48), (1, 40)):
+            contents = later_map(9, [Drawn(len=length)])[: later_object(0) + needed]
+            self.assertTrue(taffrail.check(contents))
+            words = "slot 0: cut short: the object at 10292 ends behind the file"
+            self.assert_reason(contents[:-1], 7, later_slot(0), f"{words} (Len {length})")
+
+    def test_an_object_without_pairs(self) -> None:
+        contents = later_map(9, [Drawn(len=40)])[: later_object(0) + 40]
+        struct.pack_into("<I", contents, later_object(0) + 8, 0)
+        self.assertTrue(taffrail.check(contents))
+        words = "slot 0: cut short: the object at 10292 ends behind the file (Len 40)"
+        self.assert_reason(contents[:-1], 7, later_slot(0), words)
+
+    def test_a_later_part_of_an_object_in_an_index_block(self) -> None:
+        """Its first 40 bytes are before the block, its last pair is in it."""
+        contents = bytearray(48) + later_map(10)[: later_object(0)]
+        contents[:16] = later_map(10)[:16]
+        struct.pack_into("<i", contents, 12, 48 + 48)
+        place = later_slot(0) + 48
+        struct.pack_into("<5i2iBBB", contents, place, 0, 0, 0, 0, 50, 48, 7, 0, 0, 1)
+        struct.pack_into("<iB3xIH", contents, 50, 7, 1, 1, 0)
+        words = "slot 0: the object at 50 shares bytes with the index block at 96 (Len 48)"
+        self.assert_reason(contents, 7, place, words)
 
 
 class EditWords(unittest.TestCase):
@@ -238,11 +375,25 @@ class EditWords(unittest.TestCase):
             Asked(*pair, 2, "remove", slot=0),
         ):
             self.assertNotIsInstance(edit_of(asked, 80_000), Refused)
-            for number in range(16):
+            for number in range(18):
                 if number == 10 and asked.kind != "add" or number == 12 and asked.kind == "add":
                     continue
                 answer = Refused(number, 0, "")
                 self.assertEqual(reason_of_edit(answer, asked), "", (number, asked.kind))
+
+    def test_versions_that_are_not_edited(self) -> None:
+        for version in (9, 10, 11):
+            self.map = later_map(version)
+            words = (
+                f"its version is OCAD {version}, which is checked and searched here, and not"
+                " edited. Edit it in OCAD, or save it as OCAD 6, 7 or 8 first"
+            )
+            self.assert_reason(17, words, "add", 2, offered=object_bytes())
+            self.assert_reason(17, words, "remove", 2, slot=0)
+            self.assert_reason(17, words, "reinstate", 2, slot=0)
+        asked = Asked(bytes(self.map), bytes(self.journal), 0, "remove", slot=300)
+        for number in (10, 11, 12, 13, 14, 15):
+            self.assertEqual(reason_of_edit(Refused(number, 0, ""), asked), "", number)
 
     def test_windows(self) -> None:
         contents = bytes(self.map)
@@ -314,6 +465,15 @@ class OnTheCommandLine(FolderTest):
         self.assert_told(self.map, 12, 0, reason, *self.edit("remove", 2, 1))
         reason = "the edit number is 0, and 1 is the least"
         self.assert_told(self.journal, 13, 0, reason, *self.edit("remove", 0, 0))
+
+    def test_a_version_that_is_not_edited(self) -> None:
+        """The line is the one that the package's page shows."""
+        (self.folder / "alps.ocd").write_bytes(later_map(9))
+        words = ("remove", "alps.ocd", self.journal, "--edit", 2, "--slot", 0)
+        told = run(*words, folder=self.folder).err.strip()
+        self.assertTrue(told.startswith("alps.ocd: refused 17 at 0: "), told)
+        page = (PACKAGE_FOLDER / "README.md").read_text()
+        self.assertIn(f"`{told}`", " ".join(page.split()))
 
     def test_a_journal_by_itself(self) -> None:
         self.journal.write_bytes(RECORD.pack(1, 4, 0))

@@ -1,4 +1,5 @@
-"""OCAD 6, 7 and 8 maps: check, search, add, remove and reinstate, under a journal of edits.
+"""OCAD maps: check and search those of OCAD 6 to 11; add, remove and reinstate objects in those
+of OCAD 6, 7 and 8, under a journal of edits.
 
 A first use::
 

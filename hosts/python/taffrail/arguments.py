@@ -8,14 +8,17 @@ import re
 from typing import Any, Callable, Mapping, NoReturn, Sequence
 
 from .files import misnamed
-from .layout import MOST_RECORDS, SECTION_MARKS
+from .layout import MOST_RECORDS, NINE_TO_ELEVEN, SIX_TO_EIGHT
 from .reports import PROGRAM
 from .store import DEFAULT_WAIT
+from .wording import listed
 
 JSON = "--json"
 STANDARD_INPUT = "-"
 
 NEW_VERSION = 8  # of a new map, unless another is asked for
+OTHER_VERSIONS = listed(NINE_TO_ELEVEN.versions, "and")
+NOT_MADE = f"; maps of OCAD {OTHER_VERSIONS} are checked, searched and shown, and not made"
 
 
 class WrongUsage(Exception):
@@ -51,7 +54,8 @@ def make_parser(commands: Mapping[str, Callable[..., Any]]) -> Parser:
     """The parser of all commands, each with the function that runs it."""
     parser = Parser(
         prog=PROGRAM,
-        description="OCAD 6, 7 and 8 maps: check, search and edit, under a journal of edits.",
+        description="OCAD maps: check, search and show those of OCAD 6 to 11, and edit those of"
+        " 6, 7 and 8, under a journal of edits.",
         epilog="Exit codes: 0 done or done before, 1 refused, 2 usage or files, 3 done and then"
         " something failed, 130 interrupted.",
     )
@@ -98,8 +102,8 @@ def describe_new(new: argparse.ArgumentParser) -> None:
     new.add_argument("map", metavar="MAP", nargs="?", type=file_name, help="the map to write")
     new.add_argument(
         "--version",
-        type=whole_number(min(SECTION_MARKS), max(SECTION_MARKS)),
-        metavar="|".join(map(str, SECTION_MARKS)),
+        type=whole_number(min(SIX_TO_EIGHT.versions), max(SIX_TO_EIGHT.versions), NOT_MADE),
+        metavar="|".join(map(str, SIX_TO_EIGHT.versions)),
         help=f"of the map ({NEW_VERSION})",
     )
     new.add_argument("--journal", metavar="FILE", type=file_name, help="a journal to write")
@@ -177,8 +181,8 @@ def file_name(text: str) -> str:
 MOST_DIGITS = 20  # of a number that some word takes; Python reads only so many of any
 
 
-def whole_number(lowest: int, highest: int) -> Callable[[str], int]:
-    """A reader of whole numbers within these two."""
+def whole_number(lowest: int, highest: int, more: str = "") -> Callable[[str], int]:
+    """A reader of whole numbers within these two, which may have more to say of the others."""
 
     def read(text: str) -> int:
         found = re.fullmatch("(-?)0*([0-9]+)", text)
@@ -186,7 +190,7 @@ def whole_number(lowest: int, highest: int) -> Callable[[str], int]:
             raise argparse.ArgumentTypeError(f"'{text}' is not a whole number")
         sign, digits = found.groups()
         if len(digits) > MOST_DIGITS or not lowest <= int(sign + digits) <= highest:
-            raise argparse.ArgumentTypeError(f"{text} is not within {lowest} to {highest}")
+            raise argparse.ArgumentTypeError(f"{text} is not within {lowest} to {highest}{more}")
         return int(sign + digits)
 
     return read

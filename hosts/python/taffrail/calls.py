@@ -2,7 +2,8 @@
 
 A map is the first ``used`` bytes of a buffer, which may be longer: an add needs room behind
 the map for the object and perhaps an index block (``room_for_add`` says how much). Nothing
-has to be checked beforehand; every call checks the map itself.
+has to be checked beforehand; every call checks the map itself. ``check`` and the searches take
+maps of OCAD 6 to 11. The edits take those of 6, 7 and 8, and refuse the others with 17.
 
 Numbers that the C interface cannot hold, such as a negative length or an edit number of more
 than 32 bits, raise ValueError before anything is called.
@@ -16,7 +17,7 @@ from array import array
 from typing import Optional, Tuple
 
 from . import library
-from .layout import INDEX_BLOCK_SIZE
+from .layout import SIX_TO_EIGHT
 from .library import EditAnswer, Readable, SlotArray, Writable
 from .results import (
     Accepted,
@@ -141,7 +142,7 @@ def reinstate(
 
 def room_for_add(offered: Readable) -> int:
     """The bytes behind a map that are enough to add this object, whatever the map holds."""
-    return memoryview(offered).nbytes + INDEX_BLOCK_SIZE
+    return memoryview(offered).nbytes + SIX_TO_EIGHT.block_size
 
 
 def _edit_result(answer: EditAnswer) -> EditResult:

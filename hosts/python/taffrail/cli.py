@@ -31,6 +31,7 @@ from .reports import (
     Facts,
     Report,
     describe_map,
+    describe_states,
     map_facts,
     report_done,
     report_problem,
@@ -45,14 +46,14 @@ from .store import Store, Wanted
 from .wording import counted
 
 OBJECT_MALFORMED = 10
-JOURNAL_MALFORMED = 13  # and those above it are about the journal too
+JOURNAL_MALFORMED, JOURNAL_FULL = 13, 15  # the numbers from one to the other are about a journal
 
 
 # The commands. Each takes the arguments and the store, and gives its report.
 
 
 def run_new(given: argparse.Namespace, store: Store) -> Report:
-    """Write an empty map, an empty journal, or both."""
+    """Write an empty map (OCAD 6, 7 or 8), an empty journal, or both."""
     refuse_idle_words(given)
     facts: Facts = {"result": "new"}
     files: List[Tuple[str, bytes]] = []
@@ -83,7 +84,7 @@ def run_check(given: argparse.Namespace, store: Store) -> Report:
 
 
 def run_search(given: argparse.Namespace, store: Store) -> Report:
-    """List the live slots that meet a window."""
+    """List the live slots that meet a window, hidden ones too."""
     contents = read_map(given.map, store)
     window = (given.left, given.bottom, given.right, given.top)
     answer = search(contents, *window)
@@ -103,17 +104,17 @@ def run_search(given: argparse.Namespace, store: Store) -> Report:
 
 
 def run_add(given: argparse.Namespace, store: Store) -> Report:
-    """Add an object from a file or from standard input."""
+    """Add an object from a file or from standard input (OCAD 6, 7 and 8)."""
     return run_edit(given, store, "add", offered=read_object(given.object))
 
 
 def run_remove(given: argparse.Namespace, store: Store) -> Report:
-    """Remove the object of a live slot."""
+    """Remove the object of a live slot (OCAD 6, 7 and 8)."""
     return run_edit(given, store, "remove", slot=given.slot)
 
 
 def run_reinstate(given: argparse.Namespace, store: Store) -> Report:
-    """Make an erased slot live again."""
+    """Make an erased slot live again (OCAD 6, 7 and 8)."""
     return run_edit(given, store, "reinstate", slot=given.slot)
 
 
@@ -139,7 +140,7 @@ def run_journal(given: argparse.Namespace, store: Store) -> Report:
 
 
 def run_show(given: argparse.Namespace, store: Store) -> Report:
-    """List the slots of a map."""
+    """List the slots of a map, and say which are hidden."""
     contents = read_map(given.map, store)
     answer = check(contents)
     if isinstance(answer, Refused):
@@ -150,14 +151,15 @@ def run_show(given: argparse.Namespace, store: Store) -> Report:
         counts[slot.state] += 1
         if given.free or slot.state != "free":
             slots.append(slot)
+    hidden = sum(slot.hidden for slot in slots)
     facts: Facts = {
         "result": "shown",
         **map_facts(contents),
         **counts,
+        "hidden": hidden,
         "slots": [slot._asdict() for slot in slots],
     }
-    states = ", ".join(f"{count:,} {state}" for state, count in counts.items())
-    line = f"{describe_map(contents)}; slots: {states}"
+    line = f"{describe_map(contents)}; slots: {describe_states(counts, hidden)}"
     return Report(DONE, facts, "\n".join([line, *slot_lines(slots)]))
 
 
@@ -216,7 +218,8 @@ def file_at_fault(answer: Refused, given: argparse.Namespace) -> str:
     """The file of an edit that a refusal is about."""
     if answer.number == OBJECT_MALFORMED:
         return "standard input" if given.object == STANDARD_INPUT else str(given.object)
-    return str(given.journal if answer.number >= JOURNAL_MALFORMED else given.map)
+    of_journal = JOURNAL_MALFORMED <= answer.number <= JOURNAL_FULL
+    return str(given.journal if of_journal else given.map)
 
 
 def warn_of_full(report: Report, given: argparse.Namespace, journal: bytes) -> Report:

@@ -1,4 +1,4 @@
-"""What is wrong with a map, in words: document 01's rules 1 to 7 for people.
+"""What is wrong with a map, in words: the rules 1 to 7 of documents 01 and 02 for people.
 
 The library judges. Here the place that it names is looked at once more, to say what is wrong
 there. Where nothing is found wrong at that place nothing is said, so that no reason contradicts
@@ -12,34 +12,27 @@ from typing import Callable, List, NamedTuple, Optional, Tuple
 
 from . import layout
 from .layout import (
+    FAMILIES,
     FIRST_INDEX_BLOCK_AT,
     FIRST_SYMBOL_BLOCK_AT,
     HEADER_SIZE,
-    INDEX_BLOCK_SIZE,
-    INFO_AT,
     LEAST_OBJECT,
-    LEAST_SYMBOL,
     LINK_SIZE,
     MAP_LIMIT,
     MARK,
+    MARK_AT,
     MOST_PAIRS,
-    OBJECT_HEADER_SIZE,
-    PAIR_SIZE,
-    SECTION_MARKS,
-    SETUP_AT,
-    SLOT_SIZE,
     SLOTS_IN_BLOCK,
     SYMBOL_BLOCK_SIZE,
-    TYPES,
+    Family,
+    ObjectHeader,
     Slot,
+    family_of,
     number_at,
-    short_at,
 )
 from .wording import counted, listed
 
 MARK_BYTES = MARK.to_bytes(2, "little")
-SIZE_SIZE = 2  # the bytes of the Size of a symbol record
-PARTS = {SETUP_AT: "setup", INFO_AT: "info"}
 
 
 class Kind(NamedTuple):
@@ -50,7 +43,6 @@ class Kind(NamedTuple):
     size: int
 
 
-INDEX = Kind("index block", FIRST_INDEX_BLOCK_AT, INDEX_BLOCK_SIZE)
 SYMBOLS = Kind("symbol block", FIRST_SYMBOL_BLOCK_AT, SYMBOL_BLOCK_SIZE)
 
 
@@ -92,10 +84,9 @@ def reason(number: int, place: int, data: bytes, name: str) -> str:
         return mark_reason(data, name)
     if number == 3:
         return version_reason(data)
-    if number == 4:
-        return part_reason(data, place)
-    looks = {5: index_reason, 6: symbol_reason, 7: slot_reason}
-    return looks[number](data, place) if number in looks else ""
+    looks = {4: part_reason, 5: index_reason, 6: symbol_reason, 7: slot_reason}
+    seen = number in looks and layout.known_family(data) is not None
+    return looks[number](data, place) if seen else ""
 
 
 # 1 to 4: the header.
@@ -120,22 +111,24 @@ def mark_reason(data: bytes, name: str) -> str:
 
 
 def version_reason(data: bytes) -> str:
-    section, version = layout.section_and_version(data)
-    marks = SECTION_MARKS.get(version)
-    if marks is None:
-        return f"its version is OCAD {version}, and taken are OCAD {listed(SECTION_MARKS, 'and')}"
-    if section in marks:
+    version, family = layout.version_of(data), layout.known_family(data)
+    if family is None:
+        taken = f"OCAD {min(FAMILIES)} to {max(FAMILIES)}"
+        return f"its version is OCAD {version}, and taken are {taken}"
+    mark, marks = number_at(data, MARK_AT, family.mark_form), family.marks[version]
+    if mark in marks:
         return ""
-    return f"its section mark is {section}, and OCAD {version} has {listed(marks)}"
+    return f"its {family.mark_name} is {mark}, and OCAD {version} has {listed(marks)}"
 
 
 def part_reason(data: bytes, place: int) -> str:
-    if place not in PARTS:
+    parts = family_of(data).parts
+    if place not in parts:
         return ""
     position, size = number_at(data, place), number_at(data, place + 4)
     if size < 0:
-        return f"{PARTS[place]} has the size {size:,}"
-    return outside(PARTS[place], position, size, len(data)) if size else ""
+        return f"{parts[place]} has the size {size:,}"
+    return outside(parts[place], position, size, len(data)) if size else ""
 
 
 def outside(thing: str, at: int, size: int, length: int) -> str:
@@ -175,15 +168,17 @@ def told_at(chain: Chain, place: int) -> str:
 
 def index_chain(data: bytes) -> Chain:
     """The index blocks, as far as they are good."""
-    parts = [(PARTS[at], number_at(data, at), number_at(data, at + 4)) for at in PARTS]
+    family = family_of(data)
+    kind = Kind("index block", FIRST_INDEX_BLOCK_AT, family.block_size)
 
     def keeps_off(block: int) -> str:
-        for part, position, size in parts:
-            if size > 0 and block < position + size and position < block + INDEX.size:
+        for at, part in family.parts.items():
+            position, size = number_at(data, at), number_at(data, at + 4)
+            if size > 0 and block < position + size and position < block + kind.size:
                 return f"the index block at {block} shares bytes with {part} at {position}"
         return ""
 
-    return walk(data, INDEX, keeps_off)
+    return walk(data, kind, keeps_off)
 
 
 def walk(data: bytes, kind: Kind, keeps_off: Callable[[int], str]) -> Chain:
@@ -218,13 +213,13 @@ def record_reason(data: bytes, at: int, index: Chain) -> str:
     """What is wrong with the symbol record that an entry has; nothing for an unused entry."""
     if at == 0:
         return ""
-    thing = "the symbol record"
-    wrong = outside(thing, at, SIZE_SIZE, len(data))
+    thing, family = "the symbol record", family_of(data)
+    wrong = outside(thing, at, family.symbol_form.size, len(data))
     if wrong:
         return wrong
-    size = short_at(data, at)
-    if size < LEAST_SYMBOL:
-        return f"{thing} at {at} has Size {size:,}, and {LEAST_SYMBOL} is the least"
+    size = number_at(data, at, family.symbol_form)
+    if size < family.least_symbol:
+        return f"{thing} at {at} has Size {size:,}, and {family.least_symbol} is the least"
     return outside(thing, at, size, len(data)) or shared(thing, at, size, index)
 
 
@@ -236,7 +231,7 @@ def slot_reason(data: bytes, place: int) -> str:
     found = index.around(place)
     if found is None:
         return ""
-    entry, rest = divmod(place - found[1] - LINK_SIZE, SLOT_SIZE)
+    entry, rest = divmod(place - found[1] - LINK_SIZE, family_of(data).slot_size)
     if rest != 0 or entry < 0:
         return ""
     slot = layout.slot_at(data, index.blocks, SLOTS_IN_BLOCK * found[0] + entry)
@@ -246,43 +241,52 @@ def slot_reason(data: bytes, place: int) -> str:
 
 def live_reason(data: bytes, index: Chain, slot: Slot) -> str:
     """Why this slot cannot be live; nothing where it can."""
-    version = layout.version_of(data)
     if slot.left > slot.right:
         return f"left {slot.left:,} is past right {slot.right:,}"
     if slot.bottom > slot.top:
         return f"bottom {slot.bottom:,} is past top {slot.top:,}"
-    wrong = len_reason(version, slot.len)
-    if wrong:
-        return wrong
-    at, size = slot.position, layout.object_size(version, slot.len)
-    wrong = outside("the object", at, size, len(data)) or shared("the object", at, size, index)
-    if wrong:
-        return f"{wrong} (Len {slot.len:,})"
-    return header_reason(data, slot, (size - OBJECT_HEADER_SIZE) // PAIR_SIZE)
+    return place_reason(data, index, slot, LEAST_OBJECT) or header_reason(data, index, slot)
 
 
-def len_reason(version: int, length: int) -> str:
-    if version == 8:
-        most = MOST_PAIRS[version]
-        return f"Len is {length:,} pairs, and {most:,} are the most" if length > most else ""
-    if length >= LEAST_OBJECT and (length - OBJECT_HEADER_SIZE) % PAIR_SIZE == 0:
-        return ""
-    return f"Len is {length:,}, and in OCAD {version} it is 40, 48, 56 and so on"
+def place_reason(data: bytes, index: Chain, slot: Slot, size: int) -> str:
+    """Why the slot's object cannot have so many bytes where it is."""
+    thing, at = "the object", slot.position
+    wrong = outside(thing, at, size, len(data)) or shared(thing, at, size, index)
+    return f"{wrong} (Len {slot.len:,})" if wrong else ""
 
 
-def header_reason(data: bytes, slot: Slot, pairs: int) -> str:
-    """What in the header of the slot's object is not as the slot says."""
-    header = layout.object_header(data, slot.position)
+def header_reason(data: bytes, index: Chain, slot: Slot) -> str:
+    """What in the header of the slot's object is not as the slot says. The two together tell the
+    object's bytes, and these may not all be where an object can be."""
+    version, family = layout.version_of(data), family_of(data)
+    header = layout.object_header(family, data, slot.position)
     thing = f"the object at {slot.position}"
     if header.sym != slot.sym:
         return f"Sym is {slot.sym}, and {thing} has {header.sym}"
-    if header.type not in TYPES:
-        return type_reason(thing, header.type)
-    if header.pairs != pairs:
-        told = f"nItem {header.items:,} and nText {header.texts:,}"
-        return f"Len is that of {counted(pairs, 'pair')}, and {thing} has {told}"
-    return ""
+    if header.type not in family.types:
+        return type_reason(thing, header.type, family)
+    sizes = layout.sizes_by_len(version, header.pairs)
+    if slot.len not in sizes:
+        lens = listed(f"{length:,}" for length in sizes)
+        return f"Len is {slot.len:,}, and {thing} has {pairs_told(header)}, which make it {lens}"
+    size = sizes[slot.len]
+    if size < LEAST_OBJECT:
+        return f"Len is {slot.len}, and an object has {LEAST_OBJECT} bytes at least"
+    return pairs_reason(version, header) or place_reason(data, index, slot, size)
 
 
-def type_reason(thing: str, found: int) -> str:
-    return f"{thing} has type {found}, and types are {min(TYPES)} to {max(TYPES)}"
+def pairs_reason(version: int, header: ObjectHeader) -> str:
+    """That an object has more pairs than its version takes, if it does."""
+    most = MOST_PAIRS.get(version, header.pairs)
+    if header.pairs <= most:
+        return ""
+    return f"{header.pairs:,} pairs, and in OCAD {version} {most:,} are the most"
+
+
+def type_reason(thing: str, found: int, family: Family) -> str:
+    types = family.types
+    return f"{thing} has type {found}, and types are {min(types)} to {max(types)}"
+
+
+def pairs_told(header: ObjectHeader) -> str:
+    return f"nItem {header.items:,} and nText {header.texts:,}"

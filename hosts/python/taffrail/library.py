@@ -21,6 +21,8 @@ from mmap import mmap
 from pathlib import Path
 from typing import TYPE_CHECKING, Any, List, NamedTuple, Optional, Protocol, Sequence, Union
 
+from .results import WORDS
+
 if TYPE_CHECKING:
     SlotArray = array[int]
     AnyArray = array[Any]
@@ -29,7 +31,6 @@ else:
 
 VARIABLE = "TAFFRAIL_LIBRARY"
 FILE_NAME = "libtaffrail.so"
-HIGHEST_NUMBER = 15  # of the numbers that come back
 
 Writable = Union[bytearray, memoryview, mmap, AnyArray]
 Readable = Union[bytes, Writable]
@@ -126,7 +127,7 @@ class NativeLibrary:
         lent_map = lend_for_reading(map_buffer)
         place = _Word()
         number = self._check(lent_map, len(lent_map), used, ctypes.byref(place))
-        return CheckAnswer(_known(number), place.value)
+        return CheckAnswer(known(number), place.value)
 
     def search(
         self, map_buffer: Readable, used: int, window: Sequence[int], slots: SlotArray
@@ -139,7 +140,7 @@ class NativeLibrary:
         number = self._search(
             lent_map, len(lent_map), used, *window, lent_list, len(lent_list), *out
         )
-        return SearchAnswer(_known(number), place.value, count.value, blocks.value)
+        return SearchAnswer(known(number), place.value, count.value, blocks.value)
 
     def add(
         self, map_buffer: Writable, used: int, journal: Writable, edit: int, offered: Readable
@@ -172,7 +173,7 @@ def _run_edit(
     number = call(
         lent_map, len(lent_map), used, lent_journal, len(lent_journal), edit, *given, *out
     )
-    return EditAnswer(_known(number), place.value, before.value, slot.value, length.value)
+    return EditAnswer(known(number), place.value, before.value, slot.value, length.value)
 
 
 # Lending.
@@ -273,8 +274,9 @@ def _declare(calls: ctypes.PyDLL, name: str, arguments: List[Any]) -> Any:
     return call
 
 
-def _known(number: int) -> int:
-    if number > HIGHEST_NUMBER:
+def known(number: int) -> int:
+    """A number that came back, if it is one that does."""
+    if number != 0 and number not in WORDS:
         raise LibraryError(f"the library answered {number}, a number that does not exist")
     return number
 

@@ -15,25 +15,24 @@ from typing import Iterator, List, NamedTuple, Sequence
 from . import faults, layout
 from .layout import (
     HEADER_SIZE,
-    INDEX_BLOCK_SIZE,
     JOURNAL_LIMIT,
     LEAST_OBJECT,
     MAP_LIMIT,
-    MOST_PAIRS,
     MOST_RECORDS,
     OBJECT_LIMIT,
     RECORD_SIZE,
+    SIX_TO_EIGHT,
     SLOTS_IN_BLOCK,
-    TYPES,
     JournalFault,
     Record,
     Slot,
-    short_at,
 )
 from .results import Refused
-from .wording import counted
+from .wording import counted, listed
 
 THIS = "this"  # what a map is called that has no name
+
+NOT_EDITED = 17  # the number of an edit of a map that is checked and searched alone
 
 FEW_LEFT = 3  # records of a journal
 
@@ -73,13 +72,26 @@ def reason_of_search(
 def reason_of_edit(answer: Refused, asked: Asked, name: str = THIS) -> str:
     """Why an edit was refused."""
     looks = {10: object_reason, 11: room_reason, 12: slot_reason, 13: journal_reason}
-    looks.update({14: held_reason, 15: full_reason})
+    looks.update({14: held_reason, 15: full_reason, NOT_EDITED: version_reason})
     if answer.number not in looks:
         return reason_of_check(answer, asked.map, name)
-    return looks[answer.number](asked) if len(asked.map) >= HEADER_SIZE else ""
+    family = layout.known_family(asked.map)
+    # maps that are edited get the other numbers, and those that are not get 17
+    if family is None or family.edited == (answer.number == NOT_EDITED):
+        return ""
+    return looks[answer.number](asked)
 
 
 # The edits' own numbers.
+
+
+def version_reason(asked: Asked) -> str:
+    """17: which version the map has, and what can be done."""
+    version, edited = layout.version_of(asked.map), listed(SIX_TO_EIGHT.versions)
+    return (
+        f"its version is OCAD {version}, which is checked and searched here, and not edited. Edit"
+        f" it in OCAD, or save it as OCAD {edited} first"
+    )
 
 
 def object_reason(asked: Asked) -> str:
@@ -89,28 +101,25 @@ def object_reason(asked: Asked) -> str:
         return f"it is longer than {OBJECT_LIMIT:,} bytes, the most of any object"
     if len(offered) < LEAST_OBJECT:
         return f"{counted(len(offered), 'byte')}, and an object has {LEAST_OBJECT} at least"
-    header = layout.object_header(offered)
-    told = f"nItem {header.items:,} and nText {header.texts:,}"
+    header = layout.object_header(SIX_TO_EIGHT, offered)
+    pairs = faults.pairs_told(header)
     size = layout.OBJECT_HEADER_SIZE + layout.PAIR_SIZE * header.pairs
     if len(offered) != size:
-        return f"{told} are {counted(size, 'byte')}, and it has {len(offered):,}"
+        return f"{pairs} are {counted(size, 'byte')}, and it has {len(offered):,}"
     if header.items < 1:
-        return f"{told}: one pair at least is no text"
-    if header.type not in TYPES:
-        return faults.type_reason("it", header.type)
+        return f"{pairs}: one pair at least is no text"
+    if header.type not in SIX_TO_EIGHT.types:
+        return faults.type_reason("it", header.type, SIX_TO_EIGHT)
     if header.sym == 0:
         return "its Sym is 0, which would be an erased object"
-    most = MOST_PAIRS.get(version, header.pairs)
-    if header.pairs > most:
-        return f"{header.pairs:,} pairs, and in OCAD {version} {most:,} are the most"
-    return ""
+    return faults.pairs_reason(version, header)
 
 
 def room_reason(asked: Asked) -> str:
     """11: how long the map would be. What room its buffer has is not known here."""
     length = len(asked.map) + len(asked.offered)
     if not any(slot.state == "free" for slot in slots_of(asked.map)):
-        length += INDEX_BLOCK_SIZE
+        length += SIX_TO_EIGHT.block_size
     if length <= MAP_LIMIT:
         return ""
     return f"the map would have {length:,} bytes, and {MAP_LIMIT:,} are the most"
@@ -134,8 +143,8 @@ def slot_reason(asked: Asked) -> str:
 def again_reason(contents: bytes, index: faults.Chain, slot: Slot) -> str:
     """Why an erased slot would not be good with its object's Sym."""
     sym = 0
-    if 0 <= slot.position <= len(contents) - 2:
-        sym = short_at(contents, slot.position)
+    if 0 <= slot.position <= len(contents) - LEAST_OBJECT:
+        sym = layout.object_header(SIX_TO_EIGHT, contents, slot.position).sym
     wrong = faults.live_reason(contents, index, slot._replace(sym=sym))
     return wrong or ("its object's Sym is 0" if sym == 0 else "")
 

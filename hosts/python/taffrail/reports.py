@@ -2,7 +2,7 @@
 
 from __future__ import annotations
 
-from typing import Any, Dict, Iterable, List, NamedTuple, Sequence, Union
+from typing import Any, Dict, Iterable, List, Mapping, NamedTuple, Sequence, Union
 
 from . import layout
 from .files import DoneUnfinished
@@ -92,9 +92,22 @@ def describe_map(accepted_map: bytes) -> str:
     return f"OCAD {facts['version']}, {counted(facts['length'], 'byte')}, {blocks}"
 
 
+def describe_states(counts: Mapping[str, int], hidden: int) -> str:
+    """How many slots are in each state; hidden ones are live."""
+    told = {state: f"{count:,} {state}" for state, count in counts.items()}
+    if hidden:
+        told["live"] += f" ({hidden:,} hidden)"
+    return ", ".join(told.values())
+
+
 def slot_lines(slots: Sequence[Slot]) -> List[str]:
     headings = ("slot", "state", "Sym", "Len", "position", "left", "bottom", "right", "top")
-    return table(headings, slots)
+    return table(headings, [slot_row(slot) for slot in slots])
+
+
+def slot_row(slot: Slot) -> List[object]:
+    number, state, *rest, hidden = slot
+    return [number, f"{state}, hidden" if hidden else state, *rest]
 
 
 def table(headings: Sequence[str], rows: Sequence[Iterable[Any]]) -> List[str]:

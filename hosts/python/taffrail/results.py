@@ -10,11 +10,11 @@ from __future__ import annotations
 from dataclasses import dataclass
 from typing import Dict, Literal, Tuple, Union
 
-# The numbers that come back, each with the words that document 01 gives for it.
+# The numbers that come back, each with the words that documents 01 and 02 give for it.
 WORDS: Dict[int, str] = {
     1: "length under 48 or over the limit, or past the buffer",
     2: "mark",
-    3: "version pair",
+    3: "version pair or file type",
     4: "setup, then info",
     5: "index block",
     6: "symbol block or record",
@@ -27,6 +27,7 @@ WORDS: Dict[int, str] = {
     13: "journal malformed, or edit number 0",
     14: "number held by another edit",
     15: "journal full",
+    17: "edit of a map of OCAD 9, 10 or 11",
 }
 
 
@@ -72,8 +73,8 @@ class DoneBefore:
 class Refused:
     """The call was refused and no lent byte was changed.
 
-    ``number`` and ``place`` are document 01's, ``words`` say what the number means, and
-    ``needed`` is the count that the list must have room for (number 9 alone, else 0).
+    ``number`` and ``place`` are those of documents 01 and 02, ``words`` say what the number
+    means, and ``needed`` is the count that the list must have room for (number 9 alone, else 0).
     """
 
     number: int
@@ -96,5 +97,5 @@ EditResult = Union[Done, DoneBefore, Refused]
 
 
 def refused(number: int, place: int = 0, needed: int = 0) -> Refused:
-    """The refusal of this number, with document 01's words for it."""
+    """The refusal of this number, with the documents' words for it."""
     return Refused(number, place, WORDS[number], needed)
