@@ -491,6 +491,11 @@ class Usage(CliTest):
             self.assertIn(name, ran.out)
             self.assertEqual(run(name, "--help").code, DONE)
 
+    def test_help_says_which_versions_are_taken(self) -> None:
+        self.assertIn("show those of OCAD 6 to 11", " ".join(run("--help").out.split()))
+        for name in ("new", "add", "remove", "reinstate"):
+            self.assertRegex(run(name, "--help").out, r"\(OCAD 6, 7 (and|or) 8\)")
+
 
 class FilesInTrouble(CliTest):
     """Missing, truncated, locked, read-only, huge, and other sorts of files."""
