@@ -5,9 +5,9 @@
 
 First the worked cases of `vectors`, then generated cases, sweeps of damage over every field,
 long runs of edits, and maps at the limits. `--self` puts the model itself behind the C
-interface. It ends with 1 on the first difference, or if an answer came up too seldom; fewer
-cases than 20,000 need not bring up every answer. If the library crashes, `--trace` shows in
-which case.
+interface. It ends with 1 on the first difference, or if an answer came up too seldom, on maps
+of 6 to 8 or on those of 9 to 11; fewer cases than 20,000 need not bring up every answer. If the
+library crashes, `--trace` shows in which case.
 """
 
 from __future__ import annotations
@@ -44,6 +44,12 @@ Functions = Mapping[str, Callable[..., int]]
 GUARD = bytes(range(0xA0, 0xE0))
 CASES = 20_000  # unless another number is asked for
 LEAST_HITS = 20  # of each answer in so many cases
+FAMILIES = {False: "6 to 8", True: "9 to 11"}
+WANTED = {  # the answers that have to come up in a family
+    False: ("accepted", "searched", "done", "before", *map(str, range(1, 16))),
+    True: ("accepted", "searched", "1", "2", "3", "5", "6", "7", "8", "9", "17"),
+}
+SWEPT = ((9, 0), (10, 3), (11, 8))  # versions and file types
 RUNS, MANY_RUNS = 40, 2
 PROGRAM_RUNS = 500
 MOST_LINES = 20
@@ -294,7 +300,7 @@ class Harness:
         self.lib = lib
         self.seed = seed
         self.trace = trace
-        self.counts: Counter[tuple[str, str]] = Counter()
+        self.counts: Counter[tuple[bool, str, str]] = Counter()
 
     def rng(self, label: str) -> Random:
         """A Random of its own for each part, so that a part can be run alone."""
@@ -313,7 +319,7 @@ class Harness:
             raise Difference(dump(label, case, str(difference), want, None)) from None
         if got != want:
             raise Difference(dump(label, case, "results differ", want, got))
-        self.counts[case.call, answer(want)] += 1
+        self.counts[case.new, case.call, answer(want)] += 1
         return want
 
     def cases(self, numbers: Sequence[int]) -> None:
@@ -323,9 +329,10 @@ class Harness:
             self.compare(label, generate.draw_case(self.rng(label)))
 
     def sweeps(self) -> int:
-        """Every interesting number in every field, for each accepted version pair."""
+        """Every interesting number in every field, for each accepted version pair, and for one
+        file type of each version from 9 to 11."""
         total = 0
-        for version, section in generate.VERSIONS:
+        for version, section in generate.VERSIONS + SWEPT:
             name = f"sweep {version}/{section}"
             for case in generate.sweep(self.rng(name), version, section):
                 self.compare(f"{name} {case.note}", case)
@@ -367,21 +374,30 @@ class Harness:
         return count if program else 0
 
     def coverage(self) -> str:
-        """How many cases there were for each call and answer."""
-        parts = []
-        for call in PROTOTYPES:
-            hits = {name: n for (of, name), n in self.counts.items() if of == call}
-            told = " ".join(f"{name}:{hits[name]}" for name in sorted(hits, key=by_number))
-            parts.append(f"{call} {told}")
-        return "coverage: " + " | ".join(parts)
+        """How many cases there were for each call and answer, by family of versions."""
+        lines = []
+        for new, family in FAMILIES.items():
+            parts = []
+            for call in PROTOTYPES:
+                here = {key[2]: n for key, n in self.counts.items() if key[:2] == (new, call)}
+                told = " ".join(f"{name}:{here[name]}" for name in sorted(here, key=by_number))
+                parts.append(f"{call} {told}")
+            lines.append(f"coverage of {family}: " + " | ".join(parts))
+        return "\n".join(lines)
 
     def seldom(self) -> list[str]:
-        """The answers that came up too seldom."""
-        overall: Counter[str] = Counter()
-        for (_, name), hits in self.counts.items():
-            overall[name] += hits
-        wanted = [str(number) for number in range(1, 16)] + ["done", "before"]
-        return [f"{name}:{overall[name]}" for name in wanted if overall[name] < LEAST_HITS]
+        """The answers that came up too seldom in a family of versions."""
+        few = []
+        for new, family in FAMILIES.items():
+            hits: Counter[str] = Counter()
+            for (of, _, name), count in self.counts.items():
+                hits[name] += count if of == new else 0
+            few += [
+                f"{name}:{hits[name]} on {family}"
+                for name in WANTED[new]
+                if hits[name] < LEAST_HITS
+            ]
+        return few
 
 
 def by_number(name: str) -> tuple[int, str]:
@@ -483,7 +499,7 @@ def main() -> int:
     if not seldom:
         return 0
     few = given.cases < CASES
-    print(f"{'seldom, in so few cases' if few else 'too seldom'}: {' '.join(seldom)}")
+    print(f"{'seldom, in so few cases' if few else 'too seldom'}: {', '.join(seldom)}")
     return 0 if few else 1
 
 

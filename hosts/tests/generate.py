@@ -1,7 +1,8 @@
 """Seeded test inputs: maps, journals, windows, lists, offered objects and runs of edits.
 
 All is drawn from the Random handed in, so a seed gives the same inputs again. A made map is
-good by construction; damage is put on it field by field. Quotations are from document 01.
+good by construction; damage is put on it field by field. Maps are of 6 to 8 or of 9 to 11, each
+family with its layout. Quotations are from documents 01 and 02 f).
 """
 
 from __future__ import annotations
@@ -16,18 +17,88 @@ import model
 Window = tuple[int, int, int, int]
 
 HEADER, LIMIT = 48, 16_777_216
-BLOCK, SLOT, SYMBOLS, OBJECT, PAIR, RECORD = 6_148, 24, 1_028, 32, 8, 16
+SYMBOLS, OBJECT, LONG_OBJECT, PAIR, RECORD = 1_028, 32, 40, 8, 16
 LEAST_VALUE, MOST_VALUE = -8_388_608, 8_388_607
 LEAST_INT, MOST_INT = -(2**31), 2**31 - 1
-VERSIONS = ((6, 0), (7, 7), (8, 2), (8, 3))
+VERSIONS = ((6, 0), (7, 7), (8, 2), (8, 3))  # and section marks
+NEW_VERSIONS = tuple(  # and file types
+    (version, kind) for version, last in ((9, 3), (10, 3), (11, 8)) for kind in (0, 1, last)
+)
+LIVE_STATUSES = (1, 1, 1, 2)
+OTHER_STATUSES = (0, 3, 3, 4, 5, 16, 127, 128, 129, 130, 255)
 CALLS = {1: "add", 2: "remove", 3: "reinstate"}
-SLOT_FORM = struct.Struct("<5iHh")
 RECORD_FORM = struct.Struct("<IB3xI4x")
 HEADER_FORM = struct.Struct("<4H10i")
 
 
+class Layout(NamedTuple):
+    """The layout of a family of versions; fields by name, place and width."""
+
+    block: int  # an index block
+    slot_form: struct.Struct
+    slot_fields: tuple[tuple[str, int, int], ...]
+    object_form: struct.Struct
+    object_fields: tuple[tuple[str, int, int], ...]
+    most_type: int
+    record_form: struct.Struct  # Size
+    least_record: int
+    header_fields: tuple[tuple[str, int, int], ...]
+
+    @property
+    def slot(self) -> int:
+        """The size of a slot."""
+        return self.slot_form.size
+
+    def object_field(self, name: str) -> tuple[int, int]:
+        """Place and width of a field of an object."""
+        return next((at, width) for this, at, width in self.object_fields if this == name)
+
+
+def in_row(start: int, width: int, *names: str) -> tuple[tuple[str, int, int], ...]:
+    """Fields of one width that follow each other."""
+    return tuple((name, start + width * place, width) for place, name in enumerate(names))
+
+
+OLD = Layout(
+    6_148,
+    struct.Struct("<5iHh"),
+    in_row(0, 4, "left", "bottom", "right", "top", "position") + in_row(20, 2, "Len", "Sym"),
+    struct.Struct("<hBxHH"),
+    (("Sym", 0, 2), ("type", 2, 1), ("Unicode", 3, 1), ("nItem", 4, 2), ("nText", 6, 2)),
+    5,
+    struct.Struct("<h"),
+    348,
+    in_row(0, 2, "mark", "section", "version", "subversion")
+    + in_row(8, 4, "symbol link", "index link", "setup", "setup size", "info", "info size")
+    + in_row(32, 4, "strings", "reserved a", "reserved b", "reserved c"),
+)
+NEW = Layout(
+    10_244,
+    struct.Struct("<5iIi2xB9x"),
+    in_row(0, 4, "left", "bottom", "right", "top", "position", "Len", "Sym")
+    + in_row(28, 1, "type", "mode", "Status", "view")
+    + (("colour", 32, 2), ("font", 38, 2)),
+    struct.Struct("<iB3xIH"),
+    (("Sym", 0, 4), ("type", 4, 1), ("customer", 5, 1), ("angle", 6, 2))
+    + (("nItem", 8, 4), ("nText", 12, 2), ("mark", 14, 2)),
+    7,
+    struct.Struct("<i"),
+    572,
+    (("mark", 0, 2), ("file type", 2, 1), ("file status", 3, 1), ("version", 4, 2))
+    + (("subversion", 6, 2), ("symbol link", 8, 4), ("index link", 12, 4))
+    + in_row(16, 4, "unused a", "unused b", "unused c", "unused d")
+    + in_row(32, 4, "strings", "file name", "file name size", "unused e"),
+)
+
+
+def layout_of(version: int) -> Layout:
+    """The layout of a version's family."""
+    return NEW if version >= 9 else OLD
+
+
 class Case(NamedTuple):
-    """One call with all it is lent; `valid` where the map is made to be accepted."""
+    """One call with all it is lent; `valid` where the map is made to be accepted, `new` where
+    it is made as one of 9 to 11."""
 
     call: str
     note: str
@@ -40,6 +111,7 @@ class Case(NamedTuple):
     at: int = 0
     window: Window = (0, 0, 0, 0)
     entries: tuple[int, ...] = ()
+    new: bool = False
 
     def run(self, lib: Any) -> Any:
         """The result of the call on a library with the calls of `model`."""
@@ -61,11 +133,12 @@ class Part(NamedTuple):
 
 
 class Stored(NamedTuple):
-    """An object in a map: where it is, its pairs and its Sym."""
+    """An object in a map: where it is, its pairs, its Sym and its slot's Len."""
 
     position: int
     pairs: int
     sym: int
+    length: int
 
 
 class Field(NamedTuple):
@@ -78,7 +151,7 @@ class Field(NamedTuple):
     @property
     def family(self) -> str:
         """What its fault would belong to."""
-        if self.kind in ("mark", "section", "version"):
+        if self.kind in ("mark", "section", "file type", "version"):
             return "head"
         if self.kind in ("symbol link", "symbol block link", "entry", "record Size"):
             return "symbol"
@@ -104,6 +177,11 @@ class Made:
     erased: list[int] = field(default_factory=list)
 
     @property
+    def layout(self) -> Layout:
+        """The layout of its version."""
+        return layout_of(self.version)
+
+    @property
     def used(self) -> int:
         """The map's length."""
         return len(self.data)
@@ -120,18 +198,21 @@ class Made:
 
     def place(self, number: int) -> int:
         """Where a slot is."""
-        return self.index[number // 256] + 4 + SLOT * (number % 256)
+        return self.index[number // 256] + 4 + self.layout.slot * (number % 256)
 
     def slot(self, number: int) -> tuple[int, ...]:
-        """A slot's seven numbers."""
-        return SLOT_FORM.unpack_from(self.data, self.place(number))
+        """A slot's numbers: rectangle, position, Len, Sym, and in 9 to 11 the status."""
+        return self.layout.slot_form.unpack_from(self.data, self.place(number))
 
-    def len_of(self, pairs: int) -> int:
-        """The Len of an object of so many pairs."""
-        return pairs if self.version == 8 else OBJECT + PAIR * pairs
+    def len_of(self, pairs: int, long: bool = False) -> int:
+        """The Len of an object of so many pairs; in 9 to 11 it may be its bytes, with a header
+        of 40."""
+        if long:
+            return LONG_OBJECT + PAIR * pairs
+        return pairs if self.version >= 8 else OBJECT + PAIR * pairs
 
     def size_of(self, length: int) -> int:
-        """The bytes that a Len stands for."""
+        """The bytes that a Len stands for in 6 to 8."""
         return OBJECT + PAIR * length if self.version == 8 else length
 
     def write(self, place: int, form: str, *numbers: int) -> None:
@@ -226,36 +307,71 @@ def draw_wrap(rng: Random, pairs: int) -> tuple[int, int]:
     return items, 65_536 + pairs - items
 
 
+def draw_new_object(rng: Random, pairs: int, items: int, size: int) -> bytes:
+    """An object of 9 to 11: any Sym, any bytes behind the numbers that count."""
+    sym = rng.choice((0, 1, 101_000, 101_000, 65_637, 101, -1, -3, -65_536, LEAST_INT, MOST_INT))
+    head = NEW.object_form.pack(sym, rng.randint(1, 7), items, pairs - items)
+    data = bytearray(head + rng.randbytes(size - len(head)))
+    data[5:8] = rng.randbytes(3)
+    return bytes(data)
+
+
+def draw_new_wrap(rng: Random, stored: Stored) -> tuple[int, int, int]:
+    """Len, nItem and nText of 9 to 11 that go together only if a number is cut to 16 or 32 bits,
+    or if one is taken with its sign."""
+    more = rng.randint(1, 9)
+    return rng.choice(
+        (
+            (stored.length, 2**32 - more, stored.pairs + more),
+            (stored.length, stored.pairs + more, 65_536 - more),
+            (stored.length, stored.pairs + 65_536, 0),
+            (stored.length, stored.pairs + 2**29, 0),
+            (stored.length, stored.pairs + 2**31, 0),
+            (stored.length + 65_536, stored.pairs, 0),
+            (stored.length + 2**31, stored.pairs, 0),
+            (stored.pairs + 2**29, stored.pairs + 2**29, 0),
+            (stored.pairs + 65_536, stored.pairs + 65_536, 0),
+            (2**32 - more, 2**32 - more, 0),
+        )
+    )
+
+
 # Made maps.
 
 
-def draw_map(rng: Random) -> Made:
-    """A good map of version 6, 7 or 8 with 0 to 3 index blocks in scrambled file order."""
-    version, section = rng.choice(VERSIONS)
-    return make_map(rng, version, section, draw_parts(rng))
+def draw_map(rng: Random, versions: Sequence[tuple[int, int]] = VERSIONS + NEW_VERSIONS) -> Made:
+    """A good map with 0 to 3 index blocks in scrambled file order."""
+    version, section = rng.choice(versions)
+    return make_map(rng, version, section, draw_parts(rng, layout_of(version)))
 
 
-def draw_parts(rng: Random) -> list[Part]:
+def draw_parts(rng: Random, layout: Layout) -> list[Part]:
     """What the map is to hold, in scrambled order."""
-    parts = [Part("index", BLOCK)] * rng.choice((0, 1, 1, 1, 1, 2, 2, 3))
+    parts = [Part("index", layout.block)] * rng.choice((0, 1, 1, 1, 1, 2, 2, 3))
     parts += [Part("symbols", SYMBOLS)] * rng.choice((0, 0, 1, 1, 2, 2, 3))
     parts += [
-        Part("record", 348 + rng.choice((0, 0, 1, 2, 60, 200)))
+        Part("record", layout.least_record + rng.choice((0, 0, 1, 2, 60, 200)))
         for _ in range(rng.choice((0, 1, 1, 2, 3)))
     ]
-    parts += [
-        Part("object", OBJECT + PAIR * draw_pairs(rng)) for _ in range(rng.randint(0, 5))
-    ]
+    for _ in range(rng.randint(0, 5)):
+        if layout is NEW and rng.random() < 0.5:
+            pairs = rng.choice((0, draw_pairs(rng)))
+            parts.append(Part("long object", LONG_OBJECT + PAIR * pairs))
+        else:
+            parts.append(Part("object", OBJECT + PAIR * draw_pairs(rng)))
     parts += [Part("spoiled", OBJECT + PAIR)] * rng.choice((0, 0, 1, 2))
     for kind in ("setup", "info"):
-        if rng.random() < 0.5:
+        if layout is OLD and rng.random() < 0.5:
             parts.append(Part(kind, rng.choice((1, 2, 7, 100))))
     rng.shuffle(parts)
     return parts
 
 
-def make_map(rng: Random, version: int, section: int, parts: Sequence[Part]) -> Made:
-    """The map with these parts laid out one after another, with gaps of any bytes."""
+def make_map(
+    rng: Random, version: int, section: int, parts: Sequence[Part], crowded: bool = True
+) -> Made:
+    """The map with these parts laid out one after another, with gaps of any bytes; its blocks
+    may be full if it may be crowded."""
     placed: list[tuple[int, Part]] = []
     position = HEADER + rng.choice((0, 0, 1, 3))
     for part in parts:
@@ -266,7 +382,7 @@ def make_map(rng: Random, version: int, section: int, parts: Sequence[Part]) -> 
     fill_header(rng, made)
     fill_symbols(rng, made)
     fill_objects(rng, made)
-    fill_index(rng, made)
+    fill_index(rng, made, crowded)
     return made
 
 
@@ -277,7 +393,10 @@ def starts(made: Made, kind: str) -> list[int]:
 
 def draw_area(rng: Random, made: Made, kind: str) -> tuple[int, int]:
     """Setup or info: its own part, or one it shares ("size 0 means absent, whatever the
-    position")."""
+    position"); in 9 to 11 any bytes."""
+    if made.layout is NEW:
+        where = rng.choice((0, -1, HEADER, *starts(made, "index")))
+        return where, rng.choice((0, 1, -1, made.used, MOST_INT, LEAST_INT))
     own = [(at, part.size) for at, part in made.parts if part.kind == kind]
     if own:
         return own[0]
@@ -293,9 +412,10 @@ def fill_header(rng: Random, made: Made) -> None:
     made.symbols = starts(made, "symbols")
     rng.shuffle(made.index)
     rng.shuffle(made.symbols)
+    above = rng.choice((0, 0, 1, 7, 255)) if made.layout is NEW else 0
     made.data[:HEADER] = HEADER_FORM.pack(
         3245,
-        made.section,
+        made.section + 256 * above,
         made.version,
         rng.choice((0, 4, 65_535)),
         made.symbols[0] if made.symbols else 0,
@@ -305,7 +425,7 @@ def fill_header(rng: Random, made: Made) -> None:
         rng.choice((0, 48, -1, MOST_INT)),
         *(rng.choice((0, -1, 48)) for _ in range(3)),
     )
-    for chain, size in ((made.index, BLOCK), (made.symbols, SYMBOLS)):
+    for chain, size in ((made.index, made.layout.block), (made.symbols, SYMBOLS)):
         for block, link in zip(chain, chain[1:] + [0]):
             made.data[block : block + size] = bytes(size)
             made.write(block, "i", link)
@@ -316,7 +436,7 @@ def fill_symbols(rng: Random, made: Made) -> None:
     for position, part in made.parts:
         if part.kind == "record":
             made.records.append(position)
-            made.write(position, "h", part.size)
+            made.layout.record_form.pack_into(made.data, position, part.size)
     for block in made.symbols:
         for _ in range(rng.randint(0, 3) if made.records else 0):
             entry = rng.choice((0, 1, 2, 100, 254, 255))
@@ -325,48 +445,59 @@ def fill_symbols(rng: Random, made: Made) -> None:
 
 def fill_objects(rng: Random, made: Made) -> None:
     """Objects in parts of their own, and some inside records, setup or other objects."""
+    behind = made.layout.record_form.size
     for position, part in made.parts:
-        pairs = (part.size - OBJECT) // PAIR
         if part.kind == "object":
-            store(rng, made, position, pairs)
+            store(rng, made, position, (part.size - OBJECT) // PAIR)
+        elif part.kind == "long object":
+            store(rng, made, position, (part.size - LONG_OBJECT) // PAIR, long=True)
         elif part.kind == "spoiled":
             store_spoiled(rng, made, position)
         elif part.kind == "record" and rng.random() < 0.3:
-            store(rng, made, position + rng.choice((2, 3, part.size - 40)), 1)
+            store(rng, made, position + rng.choice((behind, behind + 1, part.size - 40)), 1)
     long = [stored for stored in made.objects if stored.pairs >= 6]
     if long and rng.random() < 0.5:
         store(rng, made, rng.choice(long).position + OBJECT + rng.randint(0, 7), 1)
 
 
-def store(rng: Random, made: Made, position: int, pairs: int) -> None:
+def store(rng: Random, made: Made, position: int, pairs: int, long: bool = False) -> None:
     """An object of a live slot: nItem may be 0."""
-    data = draw_object(rng, pairs, rng.choice((pairs, pairs, 0, rng.randint(0, pairs))))
+    items = rng.choice((pairs, pairs, 0, rng.randint(0, pairs)))
+    if made.layout is NEW:
+        size = (LONG_OBJECT if long else OBJECT) + PAIR * pairs
+        data = draw_new_object(rng, pairs, items, size)
+    else:
+        data = draw_object(rng, pairs, items)
     made.data[position : position + len(data)] = data
-    made.objects.append(Stored(position, pairs, struct.unpack_from("<h", data)[0]))
+    sym = made.layout.object_form.unpack_from(data)[0]
+    made.objects.append(Stored(position, pairs, sym, made.len_of(pairs, long)))
 
 
 def store_spoiled(rng: Random, made: Made, position: int) -> None:
     """An object that no live slot may have; erased slots point to it."""
-    data = bytearray(draw_object(rng, 1, 1))
-    place, form, number = rng.choice(
-        ((0, "<h", 0), (2, "<B", 0), (2, "<B", 6), (4, "<H", 0), (4, "<H", 2), (6, "<H", 65_535))
-    )
-    struct.pack_into(form, data, place, number)
+    layout = made.layout
+    good = draw_new_object(rng, 1, 1, 40) if layout is NEW else draw_object(rng, 1, 1)
+    data = bytearray(good)
+    wrong = ("type", 0), ("type", layout.most_type + 1), ("nItem", 0), ("nItem", 2)
+    name, number = rng.choice((("Sym", 0), *wrong, ("nText", 65_535)))
+    place, width = layout.object_field(name)
+    data[place : place + width] = number.to_bytes(width, "little")
     made.data[position : position + len(data)] = data
-    made.spoiled.append(Stored(position, 1, struct.unpack_from("<h", data)[0]))
+    sym = layout.object_form.unpack_from(data)[0]
+    made.spoiled.append(Stored(position, 1, sym, made.len_of(1)))
 
 
-def fill_index(rng: Random, made: Made) -> None:
+def fill_index(rng: Random, made: Made, crowded: bool) -> None:
     """Slots: live, erased and free ones, the free ones with any Sym."""
     live = [live_slot(rng, made, stored) for stored in made.objects for _ in range(2)]
-    erased = [slot[:22] + bytes(2) for slot in live]
-    erased += [live_slot(rng, made, stored)[:22] + bytes(2) for stored in made.spoiled]
+    erased = [erase(rng, made, slot) for slot in live]
+    erased += [erase(rng, made, live_slot(rng, made, stored)) for stored in made.spoiled]
     erased += [erased_slot(rng, made) for _ in range(4)]
-    free = [bytes(SLOT)] * 3 + [rng.randbytes(20) + bytes(2) + rng.randbytes(2)]
-    full = rng.random() < 0.15
+    free = [bytes(made.layout.slot)] * 3 + [free_slot(rng, made)]
+    full = crowded and rng.random() < 0.15
     for block in range(len(made.index)):
         slots = rng.choices(free, k=256)
-        for number in sorted(set(range(256)) if full else draw_taken(rng)):
+        for number in sorted(set(range(256)) if full else draw_taken(rng, crowded)):
             if live and rng.random() < 0.6:
                 slots[number] = rng.choice(live)
                 made.live.append(256 * block + number)
@@ -374,12 +505,12 @@ def fill_index(rng: Random, made: Made) -> None:
                 slots[number] = rng.choice(erased)
                 made.erased.append(256 * block + number)
         place = made.place(256 * block)
-        made.data[place : place + 256 * SLOT] = b"".join(slots)
+        made.data[place : place + 256 * made.layout.slot] = b"".join(slots)
 
 
-def draw_taken(rng: Random) -> set[int]:
+def draw_taken(rng: Random, crowded: bool) -> set[int]:
     """Which slots of a block are not free."""
-    kind = rng.randrange(12)
+    kind = rng.randrange(12 if crowded else 10)
     if kind == 0:
         return set()
     if kind < 7:
@@ -389,27 +520,53 @@ def draw_taken(rng: Random) -> set[int]:
     return set(range(256)) - {rng.choice((0, 7, 255))}
 
 
+def pack_slot(
+    rng: Random, made: Made, rectangle: Sequence[int], position: int, length: int, sym: int
+) -> bytes:
+    """A slot that is live if its Len and, in 6 to 8, its Sym are not 0."""
+    fields = (*rectangle, position, length, sym)
+    if made.layout is OLD:
+        return OLD.slot_form.pack(*fields)
+    data = NEW.slot_form.pack(*fields, rng.choice(LIVE_STATUSES))
+    return data[:28] + rng.randbytes(2) + data[30:31] + rng.randbytes(9)
+
+
 def live_slot(rng: Random, made: Made, stored: Stored) -> bytes:
     """A slot of an object."""
-    length = made.len_of(stored.pairs)
-    return SLOT_FORM.pack(*draw_rectangle(rng), stored.position, length, stored.sym)
+    where = stored.position, stored.length, stored.sym
+    return pack_slot(rng, made, draw_rectangle(rng), *where)
+
+
+def erase(rng: Random, made: Made, slot: bytes) -> bytes:
+    """A live slot's bytes made those of an erased one: by Sym 0, in 9 to 11 by the status."""
+    if made.layout is OLD:
+        return slot[:22] + bytes(2)
+    return slot[:30] + bytes([rng.choice(OTHER_STATUSES)]) + slot[31:]
+
+
+def free_slot(rng: Random, made: Made) -> bytes:
+    """A slot whose Len is 0; all else is any."""
+    rectangle = [rng.randint(LEAST_INT, MOST_INT) for _ in range(4)]
+    where = rng.randint(LEAST_INT, MOST_INT), 0, rng.randint(-32_768, 32_767)
+    return pack_slot(rng, made, rectangle, *where)
 
 
 def erased_slot(rng: Random, made: Made) -> bytes:
     """"Erased and free slots aren't judged": pointing anywhere, or a live one that misses
     a condition."""
+    most = 65_535 if made.layout is OLD else 2**32 - 1
     if made.objects and rng.random() < 0.5:
-        fields = list(SLOT_FORM.unpack(live_slot(rng, made, rng.choice(made.objects))))
+        slot = live_slot(rng, made, rng.choice(made.objects))
+        fields = list(made.layout.slot_form.unpack(slot)[:7])
         which = rng.choice((0, 1, 4, 4, 5, 5))
         wrong = {0: fields[2] + 256, 1: fields[3] + 256}
         shift = rng.choice((-8, -1, 1, 8))
         fields[which] = wrong.get(which, fields[which] + shift)
-        fields[which] = max(1, min(fields[which], 65_535 if which == 5 else MOST_INT))
-        fields[6] = 0
-        return SLOT_FORM.pack(*fields)
+        fields[which] = max(1, min(fields[which], most if which == 5 else MOST_INT))
+        return erase(rng, made, pack_slot(rng, made, fields[:4], *fields[4:]))
     position = rng.choice(anchors(made) + [HEADER - 1, 0, 8, -1, -48, LEAST_INT, MOST_INT])
-    length = rng.choice((1, 5, 31, 32, 33, 39, 40, 41, 48, 32_768, 32_769, 65_535))
-    return SLOT_FORM.pack(*draw_rectangle(rng), position, length, 0)
+    length = rng.choice((1, 5, 31, 32, 33, 39, 40, 41, 48, 32_768, 32_769, 65_535, most))
+    return erase(rng, made, pack_slot(rng, made, draw_rectangle(rng), position, length, 7))
 
 
 def anchors(made: Made) -> list[int]:
@@ -417,7 +574,8 @@ def anchors(made: Made) -> list[int]:
     edges = {HEADER, made.used}
     for position, part in made.parts:
         edges |= {position, position + part.size}
-    for size in (2, 40, 348, SYMBOLS, BLOCK):
+    layout = made.layout
+    for size in (layout.record_form.size, 40, layout.least_record, SYMBOLS, layout.block):
         edges.add(made.used - size)
     return sorted({max(0, edge + near) for edge in edges for near in (-1, 0, 1)})
 
@@ -425,39 +583,30 @@ def anchors(made: Made) -> list[int]:
 # Damage.
 
 
-def header_fields() -> list[Field]:
-    """The header's numbers."""
-    names = ("mark", "section", "version", "subversion")
-    fields = [Field(name, 2 * i, 2) for i, name in enumerate(names)]
-    names = ("symbol link", "index link", "setup", "setup size", "info", "info size")
-    names += ("strings", "reserved a", "reserved b", "reserved c")
-    return fields + [Field(name, 8 + 4 * i, 4) for i, name in enumerate(names)]
-
-
 def slot_fields(made: Made, number: int, kind: str) -> list[Field]:
     """A slot's numbers."""
     place = made.place(number)
-    names = ("left", "bottom", "right", "top", "position")
-    fields = [Field(f"{kind} {name}", place + 4 * i, 4) for i, name in enumerate(names)]
-    return fields + [Field(f"{kind} Len", place + 20, 2), Field(f"{kind} Sym", place + 22, 2)]
+    fields = made.layout.slot_fields
+    return [Field(f"{kind} {name}", place + at, width) for name, at, width in fields]
 
 
-def object_fields(stored: Stored) -> list[Field]:
+def object_fields(made: Made, stored: Stored) -> list[Field]:
     """The numbers of an object's header."""
-    names = (("Sym", 0, 2), ("type", 2, 1), ("Unicode", 3, 1), ("nItem", 4, 2), ("nText", 6, 2))
-    return [Field(f"object {name}", stored.position + at, width) for name, at, width in names]
+    fields = made.layout.object_fields
+    return [Field(f"object {name}", stored.position + at, width) for name, at, width in fields]
 
 
 def all_fields(rng: Random, made: Made) -> list[Field]:
     """Every number worth damaging; of the slots, a few of each state."""
-    fields = header_fields()
+    fields = [Field(*field) for field in made.layout.header_fields]
     fields += [Field("block link", block, 4) for block in made.index]
     fields += [Field("symbol block link", block, 4) for block in made.symbols]
     for block in made.symbols:
         fields += [Field("entry", block + 4 + 4 * i, 4) for i in (0, 1, 2, 100, 254, 255)]
-    fields += [Field("record Size", record, 2) for record in made.records]
+    width = made.layout.record_form.size
+    fields += [Field("record Size", record, width) for record in made.records]
     for stored in made.objects:
-        fields += object_fields(stored)
+        fields += object_fields(made, stored)
     for kind, numbers in (("live", made.live), ("erased", made.erased)):
         for number in rng.sample(numbers, min(3, len(numbers))):
             fields += slot_fields(made, number, kind)
@@ -467,18 +616,16 @@ def all_fields(rng: Random, made: Made) -> list[Field]:
 
 
 SMALL = (0, 1, 2, 5, 6, 7, 8, 9, 31, 32, 33, 39, 40, 41, 47, 48, 49, 255, 256)
-BYTE_VALUES = (0, 1, 4, 5, 6, 9, 128, 255)
+BYTE_VALUES = (*range(10), 128, 129, 255)
 SHORT_VALUES = SMALL + (346, 347, 348, 349, 3244, 32_767, 32_768, 32_769, 65_528, 65_535)
 WIDE_VALUES = SMALL + (
     2**15,
     2**16 - 1,
     2**16,
     2**24,
-    2**31 - 1 - BLOCK,
     2**31 - 1,
     2**31,
     2**31 + 1,
-    2**32 - BLOCK,
     2**32 - 4,
     2**32 - 1,
 )
@@ -493,7 +640,20 @@ def damage_values(made: Made, spot: Field) -> list[int]:
     near = [old + shift for shift in (-256, -8, -1, 1, 8, 256)]
     if spot.width == 2:
         return list(SHORT_VALUES) + near
+    block = made.layout.block
+    near += [old + 2**16, old + 2**31, 2**31 - 1 - block, 2**32 - block]
     return list(WIDE_VALUES) + near + anchors(made)
+
+
+def near_values(made: Made, spot: Field) -> list[int]:
+    """Numbers that are wrong by little, or right in their lower half."""
+    layout = made.layout
+    old = int.from_bytes(made.data[spot.place : spot.place + spot.width], "little")
+    if spot.kind == "object type":
+        return [0, layout.most_type, layout.most_type + 1]
+    if spot.kind == "record Size":
+        return [layout.least_record - 1, old - 1, old + 1, old + 2**16]
+    return [old - 8, old - 1, old + 1, old + 8, old + 2**16]
 
 
 def set_field(data: bytearray, spot: Field, number: int) -> None:
@@ -507,6 +667,8 @@ def draw_damage(rng: Random, made: Made, spot: Field) -> int:
     blocks = made.index + made.symbols
     if blocks and spot.kind.endswith("link") and rng.random() < 0.3:
         return rng.choice(blocks) + rng.choice((0, 0, 0, -1, 1))
+    if rng.random() < 0.3:
+        return rng.choice(near_values(made, spot))
     return rng.choice(damage_values(made, spot))
 
 
@@ -515,7 +677,7 @@ def damage(rng: Random, made: Made) -> tuple[bytearray, str]:
     of one family, so that faults of one number stand in order."""
     data = bytearray(made.data)
     fields = all_fields(rng, made)
-    family = rng.choice(("", "", "", "", "head", "symbol", "index", "live"))
+    family = rng.choice(("", "", "", "", "head", "symbol", "index", "live", "live", "live"))
     near = [spot for spot in fields if family in ("", spot.family)] or fields
     kinds = sorted({spot.kind for spot in near})
     notes = []
@@ -525,11 +687,24 @@ def damage(rng: Random, made: Made) -> tuple[bytearray, str]:
         number = draw_damage(rng, made, spot)
         set_field(data, spot, number)
         notes.append(f"{spot.kind} at {spot.place} = {number}")
-    if made.objects and rng.random() < 0.05:
+    if made.objects and rng.random() < (0.15 if made.layout is NEW else 0.05):
         stored = rng.choice(made.objects)
-        struct.pack_into("<HH", data, stored.position + 4, *draw_wrap(rng, stored.pairs))
+        damage_sum(rng, made, data, stored)
         notes.append(f"pair sum at {stored.position}")
     return data, ", ".join(notes)
+
+
+def damage_sum(rng: Random, made: Made, data: bytearray, stored: Stored) -> None:
+    """Give an object a sum of pairs, and in 9 to 11 its slots a Len, that is too long for the
+    number that it would fit into."""
+    if made.layout is OLD:
+        struct.pack_into("<HH", data, stored.position + 4, *draw_wrap(rng, stored.pairs))
+        return
+    length, items, texts = draw_new_wrap(rng, stored)
+    struct.pack_into("<IH", data, stored.position + 8, items, texts)
+    for number in made.live:
+        if made.slot(number)[4] == stored.position:
+            struct.pack_into("<I", data, made.place(number) + 20, length)
 
 
 def draw_used(rng: Random, made: Made) -> int:
@@ -538,15 +713,21 @@ def draw_used(rng: Random, made: Made) -> int:
     return rng.choice((*far, 0, 1, 47, 48, 49, *anchors(made)))
 
 
-def draw_random(rng: Random) -> bytearray:
+def draw_random(
+    rng: Random, versions: Sequence[tuple[int, int]] = VERSIONS + NEW_VERSIONS
+) -> bytearray:
     """Any bytes behind a plausible header."""
-    used = rng.choice((48, 49, 80, 1_076, 1_424, 2_200, 6_195, 6_196, 6_236, 7_300, 12_400))
+    version, section = rng.choice(versions)
+    block = layout_of(version).block
+    one = HEADER + block
+    used = rng.choice(
+        (48, 49, 80, 1_076, 1_424, 2_200, one - 1, one, one + 40, one + 1_104, one + block + 56)
+    )
     data = bytearray(rng.randbytes(used)) if rng.random() < 0.5 else bytearray(used)
     for _ in range(rng.choice((0, 4, 40))):
         place, run = rng.randrange(48, used + 1), rng.randbytes(rng.choice((1, 4, 24)))
         data[place : place + len(run)] = run[: used - place]
-    version, section = rng.choice(VERSIONS)
-    wild = (0, 0, 0, 48, 49, 1_076, used - BLOCK, used - 40, rng.randint(LEAST_INT, MOST_INT))
+    wild = (0, 0, 0, 48, 49, 1_076, used - block, used - 40, rng.randint(LEAST_INT, MOST_INT))
     numbers = [rng.choice(wild) for _ in range(10)]
     numbers[3], numbers[5] = (rng.choice((0, 0, 0, 0, 0, 0, 0, 1, 40, -1)) for _ in range(2))
     data[:HEADER] = HEADER_FORM.pack(3245, section, version, 0, *numbers)
@@ -559,44 +740,42 @@ def draw_random(rng: Random) -> bytearray:
 # Neighbours.
 
 
-THINGS = (
-    Part("index", BLOCK),
-    Part("symbols", SYMBOLS),
-    Part("record", 348),
-    Part("record", 349),
-    Part("record", BLOCK + 20),
-    Part("record", 32_000),
-    Part("object", 32),
-    Part("object", 40),
-    Part("object", 41),
-    Part("object", 48),
-    Part("object", BLOCK + 4),
-    Part("object", 65_528),
-    Part("setup", 1),
-    Part("setup", BLOCK + 20),
-    Part("info", 2),
-    Part("info", BLOCK + 20),
-)
+def things(layout: Layout) -> list[Part]:
+    """What may lie beside a block."""
+    block = layout.block
+    parts = [Part("index", block), Part("symbols", SYMBOLS)]
+    for size in (layout.least_record, layout.least_record + 1, block + 20, 32_000):
+        parts.append(Part("record", size))
+    for size in (32, 40, 41, 48, block + 4, 65_528):
+        parts.append(Part("object", size))
+    for size in (40, 48, block + 4) if layout is NEW else ():
+        parts.append(Part("long object", size))
+    for kind, size in (("setup", 1), ("setup", block + 20), ("info", 2), ("info", block + 20)):
+        parts.append(Part(kind, size))
+    return parts
 
 
-def draw_neighbours(rng: Random) -> tuple[bytearray, str]:
+def draw_neighbours(
+    rng: Random, versions: Sequence[tuple[int, int]] = VERSIONS
+) -> tuple[bytearray, str]:
     """A block and a thing beside it that share no byte, or one or two, or lie in each
     other; all else is good, and zero."""
-    thing = rng.choice(THINGS)
-    block = Part("symbols", SYMBOLS) if rng.random() < 0.15 else Part("index", BLOCK)
+    version, section = rng.choice(versions)
+    layout = layout_of(version)
+    thing = rng.choice(things(layout))
+    block = Part("symbols", SYMBOLS) if rng.random() < 0.15 else Part("index", layout.block)
     where, shared = rng.choice(("before", "after", "in")), rng.choice((-1, 0, 0, 1, 1, 2))
     at = HEADER if where == "after" else HEADER + thing.size + rng.choice((1, 7))
     if where == "before":
         other = at - thing.size + shared
     elif where == "after":
         other = at + block.size - shared
-    elif thing.size > BLOCK:
-        other = at - rng.randint(2, thing.size - BLOCK)
+    elif thing.size > layout.block:
+        other = at - rng.randint(2, thing.size - layout.block)
     else:
-        other = at + 4 + SLOT * rng.randint(1, 40)
+        other = at + 4 + layout.slot * rng.randint(1, 40)
     end = max(at + block.size, other + thing.size)
-    version, section = rng.choice(VERSIONS)
-    data = bytearray(end + SYMBOLS + BLOCK)
+    data = bytearray(end + SYMBOLS + layout.block)
     used = place_things(rng, data, version, (block, at), (thing, other))
     data[:8] = struct.pack("<4H", 3245, section, version, 0)
     note = f"{thing.kind} of {thing.size} at {other} {where} {block.kind} at {at}"
@@ -611,6 +790,7 @@ def place_things(
     beside: tuple[Part, int],
 ) -> int:
     """Write the links, sizes and headers of both; the length is returned."""
+    layout = layout_of(version)
     (base, at), (thing, other) = block, beside
     end = max(at + base.size, other + thing.size)
     places = {"index": 12, "symbols": 8, "setup": 16, "info": 24}
@@ -624,19 +804,21 @@ def place_things(
     elif thing.kind in places:
         struct.pack_into("<i", data, places[thing.kind], other)
     elif thing.kind == "record":
-        struct.pack_into("<h", data, other, thing.size)
+        layout.record_form.pack_into(data, other, thing.size)
         symbols = at if base.kind == "symbols" else end
         struct.pack_into("<i", data, 8, symbols)
         struct.pack_into("<i", data, symbols + 4 * rng.choice((1, 2, 256)), other)
         end = max(end, symbols + SYMBOLS)
     else:
-        pairs = (thing.size - OBJECT) // PAIR
-        struct.pack_into("<hBBHH", data, other, 101, 1, 0, pairs, 0)
+        pairs = (thing.size - (OBJECT if thing.kind == "object" else LONG_OBJECT)) // PAIR
+        layout.object_form.pack_into(data, other, 101, 1, pairs, 0)
         index = at if base.kind == "index" else end
         struct.pack_into("<i", data, 12, index)
-        length = pairs if version == 8 else thing.size
-        struct.pack_into("<iHh", data, index + 4 + 16, other, length, 101)
-        end = max(end, index + BLOCK)
+        counted = thing.kind == "object" and version >= 8
+        fields = [0, 0, 0, 0, other, pairs if counted else thing.size, 101]
+        status = [rng.choice((1, 2))] if layout is NEW else []
+        layout.slot_form.pack_into(data, index + 4, *fields, *status)
+        end = max(end, index + layout.block)
     return end
 
 
@@ -726,22 +908,24 @@ def held_records(journal: bytes) -> list[tuple[int, int, int]]:
 def draw_case(rng: Random) -> Case:
     """One call on a map that is good, damaged, of a wrong length, or random bytes."""
     call = rng.choices(("check", "search", "edit"), (25, 20, 55))[0]
-    if call == "edit" and rng.random() < 0.05:
+    new = rng.random() < (0.22 if call == "edit" else 0.52)
+    versions = NEW_VERSIONS if new else VERSIONS
+    if call == "edit" and not new and rng.random() < 0.05:
         return draw_beside(rng)
-    made = draw_map(rng)
+    made = draw_map(rng, versions)
     used, data, note = made.used, made.data, "good"
-    kind = rng.random() + (0.25 if call == "edit" else 0.0)
+    kind = rng.random() + (0.25 if call == "edit" and not new else 0.0)
     if kind < 0.35:
         data, note = damage(rng, made)
     elif kind < 0.43:
-        data, note = draw_random(rng), "random"
+        data, note = draw_random(rng, versions), "random"
         used = len(data)
     elif kind < 0.5:
         used, note = draw_used(rng, made), "length"
-    elif kind < 0.65 and call != "edit":
-        data, note = draw_neighbours(rng)
+    elif kind < 0.65 and (new or call != "edit"):
+        data, note = draw_neighbours(rng, versions)
         used = len(data)
-    base = Case("check", note, note == "good", bytes(data), used)
+    base = Case("check", note, note == "good", bytes(data), used, new=new)
     if call == "check":
         return base._replace(map_buf=base.map_buf + draw_past(rng, rng.choice((0, 1, 50))))
     if call == "search":
@@ -758,7 +942,7 @@ def draw_search(rng: Random, made: Made, base: Case) -> Case:
     """A window and a list that is exact, one short, empty or long."""
     window = draw_window(rng, made)
     map_buf = base.map_buf + draw_past(rng, rng.choice((0, 3, 30)))
-    roomy = [0] * (len(map_buf) // SLOT)
+    roomy = [0] * (len(map_buf) // OLD.slot)
     count = model.search(map_buf, base.used, *window, roomy).count
     room = rng.choice((0, 1, count, count, max(0, count - 1), count + 1, count + 5))
     entries = tuple(rng.choice((7, 0, 2**32 - 1, number)) for number in range(room))
@@ -804,7 +988,7 @@ def draw_edit(rng: Random, made: Made, base: Case) -> Case:
     journal, how = draw_journal(rng, made)
     case = base._replace(journal=journal, note=f"{base.note}; journal {how}")
     held = held_records(journal)
-    if made.erased and rng.random() < 0.06:
+    if made.layout is OLD and made.erased and rng.random() < 0.06:
         case = draw_odd_repeat(rng, made, case)
     elif held and rng.random() < 0.35:
         case = draw_repeat(rng, made, case, rng.choice(held))
@@ -818,7 +1002,7 @@ def draw_beside(rng: Random) -> Case:
     """An edit where slot 0 is erased and its object may be next to a block."""
     data, note = draw_neighbours(rng)
     index = struct.unpack_from("<i", data, 12)[0]
-    if HEADER <= index <= len(data) - BLOCK:
+    if HEADER <= index <= len(data) - OLD.block:
         struct.pack_into("<h", data, index + 4 + 22, 0)
     call = rng.choice(("reinstate", "reinstate", "reinstate", "add", "remove"))
     buffer = bytes(data) + draw_past(rng, 1_000)
@@ -897,7 +1081,7 @@ def draw_same(rng: Random, made: Made, case: Case, slot: int) -> bytes:
     """The bytes of a slot's object, or nearly so."""
     if slot >= made.slots:
         return b""
-    _, _, _, _, position, length, _ = made.slot(slot)
+    position, length = made.slot(slot)[4:6]
     end = position + made.size_of(length)
     same = case.map_buf[max(0, position) : max(0, end)]
     kind = rng.randrange(8)
@@ -917,26 +1101,32 @@ def draw_room(rng: Random, made: Made, case: Case) -> int:
         return rng.choice((0, 1, 50))
     needed = len(case.offered)
     if len(made.taken) == made.slots:
-        needed += BLOCK
+        needed += OLD.block
     near = (needed, needed, needed, needed - 1, needed + 1, needed + 90, 0, 39)
     return max(0, rng.choice(near))
 
 
 def sweep(rng: Random, version: int, section: int) -> Iterator[Case]:
     """A check of one map under every interesting number in every field."""
-    parts = [Part("index", BLOCK)] * 2 + [Part("symbols", SYMBOLS)] * 2
-    parts += [Part("record", 348), Part("object", 40), Part("object", 56)]
-    parts += [Part("setup", 3), Part("info", 2)]
+    layout = layout_of(version)
+    parts = [Part("index", layout.block)] * 2 + [Part("symbols", SYMBOLS)] * 2
+    parts += [Part("record", layout.least_record), Part("object", 40)]
+    if layout is NEW:
+        parts += [Part("long object", 56)]
+    else:
+        parts += [Part("object", 56), Part("setup", 3), Part("info", 2)]
     rng.shuffle(parts)
-    made = make_map(rng, version, section, parts)
+    made = make_map(rng, version, section, parts, crowded=False)
+    new = layout is NEW
     for spot in all_fields(rng, made):
         for number in damage_values(made, spot):
             data = bytearray(made.data)
             set_field(data, spot, number)
             note = f"{spot.kind} at {spot.place} = {number}"
-            yield Case("check", note, False, bytes(data), made.used)
+            yield Case("check", note, False, bytes(data), made.used, new=new)
     for used in anchors(made):
-        yield Case("check", f"length {used}", False, bytes(made.data) + b"\xee", used)
+        map_buf = bytes(made.data) + b"\xee"
+        yield Case("check", f"length {used}", False, map_buf, used, new=new)
 
 
 # Limits.
@@ -945,7 +1135,7 @@ def sweep(rng: Random, version: int, section: int) -> Iterator[Case]:
 def limit_cases(rng: Random) -> Iterator[Case]:
     """Maps about as long as "16,777,216, so at most 2,728 index blocks"."""
     offered = draw_object(rng, 1, 1)
-    parts = [Part("object", 40), Part("index", BLOCK)]
+    parts = [Part("object", 40), Part("index", OLD.block)]
     made = make_map(rng, 7, 7, parts)
     while len(made.taken) == made.slots:
         made = make_map(rng, 7, 7, parts)
@@ -956,49 +1146,60 @@ def limit_cases(rng: Random) -> Iterator[Case]:
         add = Case("add", note, used <= LIMIT, buffer, used, bytes(32), 5, offered)
         yield add
         yield add._replace(call="check")
-    yield from many_blocks(rng, offered)
+    yield from many_blocks(rng, 7, 7, offered)
+    yield from many_blocks(rng, 11, 8, offered)
     yield from many_symbols(rng)
     yield from long_cases(rng)
+    yield from new_long_cases(rng)
 
 
-def many_blocks(rng: Random, offered: bytes) -> Iterator[Case]:
-    """2,728 index blocks, 698,368 slots."""
-    full, last = full_map(rng, 0.002)
+def many_blocks(rng: Random, version: int, section: int, offered: bytes) -> Iterator[Case]:
+    """2,728 index blocks, 698,368 slots; of 9 to 11, 1,637 and 419,072."""
+    new = version >= 9
+    count = 1_637 if new else 2_728
+    full, last = full_map(rng, version, section, count, 0.002)
     buffer = full + b"\xee" * 7_000
-    base = Case("check", "2,728 blocks", True, buffer, len(full), bytes(32), 5, offered)
+    note = f"{count} blocks"
+    base = Case("check", note, True, buffer, len(full), bytes(32), 5, offered, new=new)
     yield base
-    yield base._replace(call="search", window=(-9, -9, 9, 9), entries=(7,) * 2_728)
-    yield base._replace(call="add")
-    yield base._replace(call="remove", at=256 * 2_728 - 1)
-    yield base._replace(call="reinstate", at=256 * 2_727)
-    yield base._replace(call="reinstate", at=256 * 2_728)
+    yield base._replace(call="search", window=(-9, -9, 9, 9), entries=(7,) * count)
+    if not new:
+        yield base._replace(call="add")
+        yield base._replace(call="remove", at=256 * count - 1)
+        yield base._replace(call="reinstate", at=256 * (count - 1))
+        yield base._replace(call="reinstate", at=256 * count)
     for link in (HEADER, last, last - 1):
         data = buffer[:last] + struct.pack("<i", link) + buffer[last + 4 :]
         yield base._replace(map_buf=data, valid=False, note=f"last link {link}")
-    full, last = full_map(rng, 1.0)
-    entries = tuple(range(7, 7 + 256 * 2_728))
-    window = (5, 5, 9, 9)
-    yield Case("search", "all live", True, full, len(full), window=window, entries=entries)
+    full, last = full_map(rng, version, section, count, 1.0)
+    entries = tuple(range(7, 7 + 256 * count))
+    search = Case("search", "all live", True, full, len(full), window=(5, 5, 9, 9), new=new)
+    yield search._replace(entries=entries)
 
 
-def full_map(rng: Random, live_share: float) -> tuple[bytes, int]:
-    """2,728 index blocks in scrambled order, and where the last is. No slot is free; the
+def full_map(
+    rng: Random, version: int, section: int, count: int, live_share: float
+) -> tuple[bytes, int]:
+    """So many index blocks in scrambled order, and where the last is. No slot is free; the
     last slot is live. The object lies behind the blocks."""
-    blocks = [HEADER + BLOCK * place for place in range(2_728)]
-    end = HEADER + BLOCK * 2_728
+    made = Made(version, section, bytearray(), [])
+    size = made.layout.block
+    blocks = [HEADER + size * place for place in range(count)]
+    end = HEADER + size * count
     rng.shuffle(blocks)
-    stored = draw_object(rng, 1, 1)
-    sym = struct.unpack_from("<h", stored)[0]
-    live = SLOT_FORM.pack(0, 0, 1280, 1280, end, 40, sym)
-    erased = live[:22] + bytes(2)
-    data = bytearray(HEADER_FORM.pack(3245, 7, 7, 0, 0, blocks[0], *([0] * 8)))
+    new = made.layout is NEW
+    stored = draw_new_object(rng, 1, 1, 40) if new else draw_object(rng, 1, 1)
+    sym = made.layout.object_form.unpack_from(stored)[0]
+    live = pack_slot(rng, made, (0, 0, 1280, 1280), end, made.len_of(1), sym)
+    erased = erase(rng, made, live)
+    data = bytearray(HEADER_FORM.pack(3245, section, version, 0, 0, blocks[0], *([0] * 8)))
     data += bytes(end - HEADER) + stored
     rest = live if live_share == 1.0 else erased
     for block, link in zip(blocks, blocks[1:] + [0]):
         some = live if rng.random() < live_share else erased
-        data[block : block + BLOCK] = struct.pack("<i", link) + rest * 255 + some
-    last = blocks[-1] + BLOCK - SLOT
-    data[last : last + SLOT] = live
+        data[block : block + size] = struct.pack("<i", link) + rest * 255 + some
+    last = blocks[-1] + size - len(live)
+    data[last : last + len(live)] = live
     return bytes(data), blocks[-1]
 
 
@@ -1016,6 +1217,8 @@ def many_symbols(rng: Random) -> Iterator[Case]:
     for link in (blocks[0], blocks[-1], blocks[7] + 1):
         struct.pack_into("<i", data, blocks[-1], link)
         yield base._replace(map_buf=bytes(data), valid=False, note=f"last link {link}")
+    data[:8] = struct.pack("<4H", 3245, 1, 10, 0)
+    yield base._replace(map_buf=bytes(data), valid=False, note="last link of 10", new=True)
 
 
 def long_cases(rng: Random) -> Iterator[Case]:
@@ -1029,7 +1232,7 @@ def long_cases(rng: Random) -> Iterator[Case]:
             yield base._replace(call="reinstate")
             yield base._replace(call="remove")
             same = RECORD_FORM.pack(5, 1, 0) + bytes(16)
-            yield base._replace(call="add", journal=same, offered=data[HEADER + BLOCK :])
+            yield base._replace(call="add", journal=same, offered=data[HEADER + OLD.block :])
     for size in (347, 348, 32_767, 32_768, 32_769, 65_535):
         data = bytearray(HEADER + SYMBOLS + size)
         data[:8] = struct.pack("<4H", 3245, 7, 7, 0)
@@ -1042,7 +1245,7 @@ def long_cases(rng: Random) -> Iterator[Case]:
             offered = draw_object(rng, pairs, rng.choice((1, pairs)))
             empty = bytes(make_map(rng, version, section, []).data)
             for room in (0, -1):
-                buffer = empty + draw_past(rng, len(offered) + BLOCK + room)
+                buffer = empty + draw_past(rng, len(offered) + OLD.block + room)
                 note = f"{pairs} pairs"
                 yield Case("add", note, True, buffer, len(empty), bytes(16), 5, offered)
 
@@ -1050,11 +1253,48 @@ def long_cases(rng: Random) -> Iterator[Case]:
 def long_object(pairs: int, sym: int) -> bytes:
     """Version 8: a block at 48, an object of so many pairs behind it, slot 0 live or, with
     Sym 0, erased."""
-    data = bytearray(HEADER + BLOCK + OBJECT + PAIR * pairs)
+    end = HEADER + OLD.block
+    data = bytearray(end + OBJECT + PAIR * pairs)
     data[:8] = struct.pack("<4H", 3245, 2, 8, 0)
     struct.pack_into("<i", data, 12, HEADER)
-    struct.pack_into("<iHh", data, HEADER + 4 + 16, HEADER + BLOCK, pairs, sym)
-    struct.pack_into("<hBBHH", data, HEADER + BLOCK, 101, 1, 0, pairs, 0)
+    struct.pack_into("<iHh", data, HEADER + 4 + 16, end, pairs, sym)
+    OLD.object_form.pack_into(data, end, 101, 1, pairs, 0)
+    return bytes(data)
+
+
+def new_long_cases(rng: Random) -> Iterator[Case]:
+    """9 to 11: Len and Size in 32 bits, and objects that end where the map does or past it."""
+    most = (LIMIT - HEADER - NEW.block - OBJECT) // PAIR
+    for pairs in (32_768, 65_535, 65_536, 65_537, most):
+        for long in (False, True):
+            data = new_long_object(rng, pairs, long)
+            for used in (len(data), len(data) - 1):
+                if used <= LIMIT:
+                    note = f"{pairs} pairs, length {used}"
+                    yield Case("check", note, used == len(data), data, used, new=True)
+    for size in (571, 572, 32_767, 32_768, 65_535, 65_536, 66_108, LIMIT - 1_076, -1, -572):
+        data = bytearray(HEADER + SYMBOLS + max(572, size))
+        data[:8] = struct.pack("<4H", 3245, 3, 10, 0)
+        struct.pack_into("<i", data, 8, HEADER)
+        struct.pack_into("<i", data, HEADER + 4, HEADER + SYMBOLS)
+        struct.pack_into("<i", data, HEADER + SYMBOLS, size)
+        for used in (len(data), len(data) - 1):
+            note = f"Size {size}, length {used}"
+            good = size >= 572 and used == len(data)
+            yield Case("check", note, good, bytes(data), used, new=True)
+
+
+def new_long_object(rng: Random, pairs: int, long: bool) -> bytes:
+    """Version 9: a block at 48 and behind it an object of so many pairs, whose slot 0 is live
+    and has a Len of either meaning."""
+    made = Made(9, 0, bytearray(), [])
+    end = HEADER + NEW.block
+    data = bytearray(end + (LONG_OBJECT if long else OBJECT) + PAIR * pairs)
+    data[:16] = struct.pack("<4H2i", 3245, 0, 9, 0, 0, HEADER)
+    items = rng.choice((pairs, max(0, pairs - 65_535)))
+    NEW.object_form.pack_into(data, end, 101_000, 1, items, pairs - items)
+    slot = pack_slot(rng, made, draw_rectangle(rng), end, made.len_of(pairs, long), 101_000)
+    data[HEADER + 4 : HEADER + 4 + NEW.slot] = slot
     return bytes(data)
 
 
@@ -1073,8 +1313,8 @@ class Run:
         if many or rng.random() < 0.3:
             self.made = make_map(rng, version, section, [])
         else:
-            self.made = draw_map(rng)
-        room = 3 * BLOCK + 40_000 if many else rng.choice((90, 900, 7_000, 14_000, 30_000))
+            self.made = draw_map(rng, VERSIONS)
+        room = 3 * OLD.block + 40_000 if many else rng.choice((90, 900, 7_000, 14_000, 30_000))
         self.add_share = 0.8 if many else rng.choice((0.2, 0.45))
         self.map_buf = bytes(self.made.data) + draw_past(rng, room)
         self.used = self.made.used
