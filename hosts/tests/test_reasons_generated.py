@@ -6,13 +6,15 @@ import struct
 import unittest
 from array import array
 from random import Random
-from typing import Iterator, NamedTuple, Tuple
+from typing import Dict, Iterator, NamedTuple, Sequence, Tuple
 
+from support_host import later_map, later_slot
 from support_reasons import edit_of, small_map
 
 import generate
 import taffrail
 from taffrail import Refused
+from taffrail.layout import FAMILIES, version_of
 from taffrail.reasons import Asked, reason_of_check, reason_of_edit, reason_of_search
 
 
@@ -22,21 +24,29 @@ class Judged(NamedTuple):
     answer: Refused
     reason: str
     note: str
+    version: int
 
 
 SEED = 18
 CASES = 2_500
 SWEEP_STEP = 11  # every so many of the swept maps are looked at
 
+Spoken = Dict[str, Tuple[Tuple[int, ...], str]]
+
 # What the reason for a single damaged field has to speak of, where the number is one of these.
-SPOKEN_OF = {
-    "mark": ((2,), "no OCAD map"),
+IN_SIX_TO_EIGHT: Spoken = {
     "section": ((3,), "section mark"),
-    "version": ((3,), "OCAD"),
     "setup": ((4, 5), "setup"),
     "setup size": ((4, 5), "setup"),
     "info": ((4, 5), "info"),
     "info size": ((4, 5), "info"),
+}
+IN_NINE_TO_ELEVEN: Spoken = {
+    "file type": ((3,), "file type"),
+}
+IN_BOTH: Spoken = {
+    "mark": ((2,), "no OCAD map"),
+    "version": ((3,), "OCAD"),
     "index link": ((5,), "index block"),
     "block link": ((5,), "index block"),
     "symbol link": ((6,), "symbol block"),
@@ -66,8 +76,11 @@ class Agreement(unittest.TestCase):
         for judged in self.refused_cases():
             with self.subTest(note=judged.note, answer=str(judged.answer)):
                 self.assertNotEqual(judged.reason, "")
-            seen.add(judged.answer.number)
-        self.assertEqual(seen, set(range(2, 16)) - {11})
+            if judged.version in FAMILIES:
+                seen.add((FAMILIES[judged.version].edited, judged.answer.number))
+        edited = {(True, number) for number in (*range(2, 11), *range(12, 16))}
+        others = {(False, number) for number in (2, 3, 5, 6, 7, 8, 9, 17)}
+        self.assertEqual(seen, edited | others)
 
     def refused_cases(self) -> Iterator[Judged]:
         """Generated calls that were refused, but for those on account of their buffer."""
@@ -78,7 +91,8 @@ class Agreement(unittest.TestCase):
                 continue
             answer = self.answer_to(case, contents)
             if isinstance(answer, Refused) and answer.number != 11:
-                yield Judged(answer, self.reason_for(case, contents, answer), case.note)
+                reason, version = self.reason_for(case, contents, answer), version_of(contents)
+                yield Judged(answer, reason, case.note, version)
 
     def answer_to(self, case: generate.Case, contents: bytes) -> object:
         if case.call == "check":
@@ -97,23 +111,31 @@ class Agreement(unittest.TestCase):
 
     def test_damage_to_one_field(self) -> None:
         """The reason speaks of the field that was damaged."""
+        self.assert_spoken_of({**IN_BOTH, **IN_SIX_TO_EIGHT}, generate.VERSIONS)
+        self.assert_spoken_of({**IN_BOTH, **IN_NINE_TO_ELEVEN}, generate.NEW_VERSIONS)
+
+    def assert_spoken_of(self, fields: Spoken, versions: Sequence[Tuple[int, int]]) -> None:
+        """Every one of the fields, in maps of these versions with these marks."""
         spoken = set()
-        for version, section in generate.VERSIONS:
+        for case in self.swept(versions):
+            answer = taffrail.check(case.map_buf, used=case.used)
+            contents = case.map_buf[: case.used]
+            if not isinstance(answer, Refused) or len(contents) < case.used:
+                continue
+            reason = reason_of_check(answer, contents)
+            kind = case.note.split(" at ")[0]
+            numbers, words = fields.get(kind, ((), ""))
+            with self.subTest(note=case.note, answer=str(answer)):
+                self.assertNotEqual(reason, "")
+                if answer.number in numbers:
+                    spoken.add(kind)
+                    self.assertIn(words, reason)
+        self.assertEqual(spoken, set(fields))
+
+    def swept(self, versions: Sequence[Tuple[int, int]]) -> Iterator[generate.Case]:
+        for version, section in versions:
             cases = list(generate.sweep(Random(f"{SEED} {version} {section}"), version, section))
-            for case in cases[::SWEEP_STEP]:
-                answer = taffrail.check(case.map_buf, used=case.used)
-                contents = case.map_buf[: case.used]
-                if not isinstance(answer, Refused) or len(contents) < case.used:
-                    continue
-                reason = reason_of_check(answer, contents)
-                kind = case.note.split(" at ")[0]
-                numbers, words = SPOKEN_OF.get(kind, ((), ""))
-                with self.subTest(note=case.note, answer=str(answer)):
-                    self.assertNotEqual(reason, "")
-                    if answer.number in numbers:
-                        spoken.add(kind)
-                        self.assertIn(words, reason)
-        self.assertEqual(spoken, set(SPOKEN_OF))
+            yield from cases[::SWEEP_STEP]
 
     def test_good_maps(self) -> None:
         """Nothing is found wrong at any place of a map that is accepted."""
@@ -135,19 +157,29 @@ class Agreement(unittest.TestCase):
             yield from ((6, block + 4 * entry) for entry in range(257))
             yield 6, block + 2
         for block in made.index:
-            yield from ((7, block + 4 + 24 * slot) for slot in range(256))
-            yield from ((7, block + offset) for offset in (0, 5, 6_147))
+            yield from ((7, block + 4 + made.layout.slot * slot) for slot in range(256))
+            yield from ((7, block + offset) for offset in (0, 5, made.layout.block - 1))
         yield 6, 8
 
     def test_other_places(self) -> None:
         """A fault at one place is no reason for a refusal at another."""
-        for number, right, at, wrong in ((7, 92, 92 + 16, 47), (5, 88, 88, 7), (6, 8, 8, 88)):
-            contents, _ = small_map()
-            struct.pack_into("<i", contents, at, wrong)
-            answer = taffrail.check(contents)
+        old, new = small_map()[0], later_map(10)
+        slot = later_slot(1)
+        new[slot : slot + 40] = new[later_slot(0) : slot]  # a second slot with the same object
+        for contents, number, right, at, wrong in (
+            (old, 7, 92, 92 + 16, 47),
+            (old, 5, 88, 88, 7),
+            (old, 6, 8, 8, 88),
+            (new, 7, slot, slot + 16, 47),
+            (new, 5, 48, 48, 7),
+            (new, 6, 8, 8, 88),
+        ):
+            spoiled = bytearray(contents)
+            struct.pack_into("<i", spoiled, at, wrong)
+            answer = taffrail.check(spoiled)
             self.assertEqual(answer, Refused(number, right, taffrail.WORDS[number]))
             for place in range(300):
-                found = reason_of_check(Refused(number, place, ""), bytes(contents))
+                found = reason_of_check(Refused(number, place, ""), bytes(spoiled))
                 self.assertEqual(found != "", place == right, (number, place))
 
     def test_any_bytes(self) -> None:
@@ -156,7 +188,7 @@ class Agreement(unittest.TestCase):
         for _ in range(1_500):
             contents = bytes(self.any_map(rng))
             journal = rng.randbytes(rng.choice((0, 15, 16, 64))) + bytes(16)
-            number = rng.randint(0, 16)
+            number = rng.randint(0, 18)
             place = rng.choice((0, 8, 12, 16, 24, rng.randrange(7_000), 2**32 - 1))
             answer = Refused(number, place, "")
             kind, slot = rng.choice(sorted(generate.CALLS.values())), rng.choice((0, 5, 2**32 - 1))
