@@ -317,11 +317,15 @@ def draw_new_object(rng: Random, pairs: int, items: int, size: int) -> bytes:
 
 
 def draw_new_wrap(rng: Random, stored: Stored) -> tuple[int, int, int]:
-    """Len, nItem and nText of 9 to 11 that go together only if a number is cut to 16 or 32 bits,
-    or if one is taken with its sign."""
+    """Len, nItem and nText of 9 to 11 that go together by the other meaning of Len, or only if
+    a number is cut to 16 or 32 bits or taken with its sign."""
     more = rng.randint(1, 9)
     return rng.choice(
         (
+            (stored.length, stored.length, 0),
+            (stored.length, 0, stored.length % 2**16),
+            (stored.pairs, stored.pairs, 0),
+            (LONG_OBJECT + PAIR * stored.pairs, stored.pairs, 0),
             (stored.length, 2**32 - more, stored.pairs + more),
             (stored.length, stored.pairs + more, 65_536 - more),
             (stored.length, stored.pairs + 65_536, 0),
@@ -695,8 +699,8 @@ def damage(rng: Random, made: Made) -> tuple[bytearray, str]:
 
 
 def damage_sum(rng: Random, made: Made, data: bytearray, stored: Stored) -> None:
-    """Give an object a sum of pairs, and in 9 to 11 its slots a Len, that is too long for the
-    number that it would fit into."""
+    """Give an object a sum of pairs, and in 9 to 11 its live slots a Len, that go together only
+    for a reader who cuts them."""
     if made.layout is OLD:
         struct.pack_into("<HH", data, stored.position + 4, *draw_wrap(rng, stored.pairs))
         return
@@ -1263,15 +1267,18 @@ def long_object(pairs: int, sym: int) -> bytes:
 
 
 def new_long_cases(rng: Random) -> Iterator[Case]:
-    """9 to 11: Len and Size in 32 bits, and objects that end where the map does or past it."""
-    most = (LIMIT - HEADER - NEW.block - OBJECT) // PAIR
-    for pairs in (32_768, 65_535, 65_536, 65_537, most):
-        for long in (False, True):
+    """9 to 11: the longest map, Len and Size in 32 bits, and objects and records that end where
+    the map does or past it."""
+    longest = struct.pack("<4H", 3245, 8, 11, 0).ljust(LIMIT + 1, b"\0")
+    for used in (LIMIT, LIMIT + 1):
+        yield Case("check", f"length {used}", used == LIMIT, longest, used, new=True)
+    for long, head in ((False, OBJECT), (True, LONG_OBJECT)):
+        most = (LIMIT - HEADER - NEW.block - head) // PAIR
+        for pairs in (32_768, 65_535, 65_536, 65_537, most):
             data = new_long_object(rng, pairs, long)
             for used in (len(data), len(data) - 1):
-                if used <= LIMIT:
-                    note = f"{pairs} pairs, length {used}"
-                    yield Case("check", note, used == len(data), data, used, new=True)
+                note = f"{pairs} pairs, length {used}"
+                yield Case("check", note, used == len(data), data, used, new=True)
     for size in (571, 572, 32_767, 32_768, 65_535, 65_536, 66_108, LIMIT - 1_076, -1, -572):
         data = bytearray(HEADER + SYMBOLS + max(572, size))
         data[:8] = struct.pack("<4H", 3245, 3, 10, 0)
