@@ -16,7 +16,7 @@ use Rattle.records.specs.Sizes.{indexBlockSize, indexPage}
 use Rattle.records.specs.Headers.{indexHead}
 use Rattle.records.specs.Journals.{recordFor}
 use Rattle.chain.specs.Tables.{EndsTable, endsMeet}
-use Rattle.judge.specs.Rules.{touches}
+use Rattle.judge.specs.Rules.{narrow, touches}
 use Rattle.judge.specs.Judging.{versionOf, slotGood}
 use Rattle.accept.specs.Verdicts.{verdict}
 use Rattle.accept.proofs.Accepting.{Holds}
@@ -142,7 +142,7 @@ module _ {m : List ℕ} {used n : ℕ} (h : Holds m used n) (bytes : Bytes m) (s
   pub reinstate-by : {index : List ℕ} → EndsTable indexBlockSize indexHead indexPage m n index
       → symToReinstate (endsMeet indexBlockSize index) m used (slotIn m s) ≡ cond (canReinstate m used n s) (Write (objectSym m s)) None
   unfolding symToReinstate good objectSym
-  reinstate-by w = rw (same-touch w, ← tests-agree)
+  reinstate-by w = rw (same-touch narrow w, ← tests-agree)
 
 -- ---- the outcome
 

@@ -22,7 +22,7 @@ use Rattle.accept.specs.declared.Verdict.the-variants.{Accepted, Refused}
 use Rattle.judge.specs.Rules.{slotAt, touches}
 use Rattle.judge.specs.Judging.{versionOf, slotGood, isLive, badSlot}
 use Rattle.accept.specs.Verdicts.{verdict}
-use Rattle.accept.proofs.Accepting.{Holds, accepted-is, accepted-tells, blocks-one}
+use Rattle.accept.proofs.Accepting.{Holds, accepted-is, accepted-tells, holds-narrow, blocks-one}
 use Rattle.judge.proofs.Telling.{and-true, GoodSlot, slot-is, slot-tells, bad-good, bad-dead, bad-tells}
 use Rattle.frame.proofs.Frame.{Change, good-kept, slot-kept, version-same, change-accepted, change-back}
 use Rattle.frame.proofs.Writes.{slot-lies, store-change, store-place, store-other}
@@ -123,6 +123,6 @@ module _ {m : List ℕ} {used n : ℕ} (h : Holds m used n) (s : ℕ) (l : s < 2
           rw (sym q ∙ accepted-is (sym-holds h s l y f (inr g)))
       go false e (Refused k p) q = refl
       go false e (Accepted k) q =
-          let g = accepted-tells (withSym m s y) used k q in
+          let g = accepted-tells (withSym m s y) used k (q, rw (version-same (sym-change h s l y)) (holds-narrow h)) in
           let t = back (rw (same-blocks g) at g) in
           absurd (never (sym (slot-is t) ∙ e))

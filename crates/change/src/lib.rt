@@ -26,7 +26,7 @@ ghost use Rattle.numbers.specs.Bytes.{bytesOf};
 ghost use Rattle.records.specs.Sizes.{headerSize, indexBlockSize, indexPage, slotSize, mapLimit};
 ghost use Rattle.chain.specs.Chains.{place};
 ghost use Rattle.chain.specs.Tables.{Empty, endsMeet};
-ghost use Rattle.judge.specs.Indexed.{Indexed};
+ghost use Rattle.chain.specs.Indexed.{Indexed};
 ghost use Rattle.judge.specs.Rules.{slotAt};
 ghost use Rattle.accept.specs.Verdicts.{Editable};
 ghost use Rattle.journal.specs.Journals.{inUse};
@@ -45,7 +45,7 @@ pub enum NewSym {
 
 // The Sym that reinstates an erased slot.
 fn sym_to_reinstate(m: &[u8], used: usize, index: &[u32], t: Slot) -> NewSym
-    requires { ⌜ (headerSize ≤ used) × Indexed (now m) used (now index) × (t .len ≡ 0 → ⊥) ⌝ }
+    requires { ⌜ (headerSize ≤ used) × Indexed indexBlockSize (now m) used (now index) × (t .len ≡ 0 → ⊥) ⌝ }
     ensures { λ r. ⌜ r ≡ symToReinstate (endsMeet indexBlockSize (now (index .entry))) (now (m .entry)) used t ⌝ }
 {
     let at = t.position as usize;

@@ -4,8 +4,7 @@ use Prim.Native.Nat.{_*_, _<_}
 use mathlib.Core.Path.{_≡_, sym, _∙_}
 use native.Mathlib.Omega.{arith}
 use denote.Ref.{now}
-use Rattle.accept.specs.declared.Verdict.the-variants.{Accepted}
-use Rattle.accept.specs.Verdicts.{verdict}
+use Rattle.accept.specs.Verdicts.{Editable}
 use Rattle.accept.proofs.Accepting.{Holds, accepted-tells}
 use Rattle.frame.proofs.Writes.{slot-lies}
 use Rattle.edit.specs.declared.EditStart.the-variants as starts
@@ -65,7 +64,7 @@ repeat-change-requires c κs =
 new : (c : tie.After-start3) → let a = start (c .before .before .before .before) .args in startOf (now (a .map)) (a .used) (now (a .journal)) (a .edit) ≡ starts.New (c .start3 .given .0 .0) (c .start3 .given .0 .1 .0) (c .start3 .given .0 .1 .1 .0)
 new c = sym (c .before .before .before .before .begin .ensures .0) ∙ c .start3 .given .1
 
-accepted : (c : tie.After-start3) → let a = start (c .before .before .before .before) .args in verdict (now (a .map)) (a .used) ≡ Accepted (c .start3 .given .0 .0)
+accepted : (c : tie.After-start3) → let a = start (c .before .before .before .before) .args in Editable (now (a .map)) (a .used) (c .start3 .given .0 .0)
 accepted c =
     let f = c .start3 .given .0 in
     let a = start (c .before .before .before .before) .args in
