@@ -1,6 +1,7 @@
 -- The customer's third demand (README.md, "The three demands"), sentence by sentence, as statements over runs. The quoted sentences are its words. Each is
--- proved in proofs/ under the same name in small letters. A state is good when its map is accepted and its journal well formed for it. In a run calls may
--- carry any numbers and bytes that a machine can send, and between two of them the host may put the map into another buffer (`Fair`).
+-- proved in proofs/ under the same name in small letters. A state is good when its map is accepted and of OCAD 6 to 8, and its journal well formed for it; on a map
+-- of 9 to 11 no edit is done (`WideStays`). In a run calls may carry any numbers and bytes that a machine can send, and between two of them the host may put the
+-- map into another buffer (`Fair`).
 use Prim.Native.Nat.{ℕ, _+_, _-_, _*_, _/_, _≤_, _<_}
 use mathlib.Core.Bool.{true, false}
 use mathlib.Core.Path.{_≡_}
@@ -11,17 +12,21 @@ use Rattle.numbers.specs.Bytes.{Bytes}
 use Rattle.numbers.specs.Ranges.{share}
 use Rattle.windows.specs.declared.Window.{Window}
 use Rattle.records.specs.declared.JournalRecord.{JournalRecord}
-use Rattle.windows.specs.Windows.{windowGood, meetsWindow}
+use Rattle.windows.specs.Windows.{windowGood, rectangleAt, sidesOf, meetsWindow}
 use Rattle.slots.specs.Slots.{slotOf, slotBytes, bytesIn}
 use Rattle.records.specs.Sizes.{headerSize, indexBlockSize, slotSize, journalRecordSize, blockCells}
-use Rattle.records.specs.Headers.{indexHead}
+use Rattle.records.specs.Headers.{indexHead, isWide}
+use Rattle.wide.specs.Slots.{wideSlotOf, wideLive}
 use Rattle.chain.specs.Chains.{block}
-use Rattle.judge.specs.Rules.{slotAt}
+use Rattle.judge.specs.Rules.{wide, slotAt, slotAtOf}
 use Rattle.judge.specs.Judging.{versionOf}
 use Rattle.find.specs.declared.SearchAnswer.the-variants.{Found, Short, Refused}
 use Rattle.find.specs.Searches.{In}
 use Rattle.journal.specs.Journals.{isHeld, recordsOf}
+use Rattle.accept.specs.declared.Verdict.the-variants.{Accepted}
+use Rattle.accept.specs.Verdicts.{verdict}
 use Rattle.edit.specs.declared.EditAnswer.the-variants.{Before}
+use Rattle.edit.specs.declared.EditAnswer.the-variants as edits
 use Rattle.accept.specs.Slots.{slotIn}
 use Rattle.change.specs.Slots.{resym, objectSym}
 use Rattle.add.specs.Adds.{slotAdded}
@@ -93,17 +98,31 @@ ContentIsBytes =
 -- ---- a search, at any time of a run, lists exactly the live slots whose rectangles meet the window, ascending, in the first entries of its list, and the
 -- others keep what they held. It says how many they are, and how many blocks the chain has. A window with left > right or bottom > top gets 8, and a list
 -- shorter than the count gets 9 with the count needed; the list is then as it was
-pub record SearchSays (st : State) (w : Window) (l : List ℕ) : Type 0 where
+pub record SearchSays (wanted : ℕ → Type 0) (st : State) (w : Window) (l : List ℕ) : Type 0 where
   pub slots : List ℕ
-  pub exactly : (s : ℕ) → In s slots ↔ ((isLiveIn st s ≡ true) × (meetsWindow (contentOf (st .map) s .slot) w ≡ true))
+  pub exactly : (s : ℕ) → In s slots ↔ wanted s
   pub ascending : (i k : ℕ) → i < k → k < length slots → getD slots i 0 < getD slots k 0
   pub finds : windowGood w ≡ true → length slots ≤ length l
       → outcome st (search w l) .said ≡ searched (Found (length slots) (blocksIn (st .map) (st .used))) (slots ++ drop (length slots) l)
   pub short : windowGood w ≡ true → length l < length slots → outcome st (search w l) .said ≡ searched (Short (length slots)) l
   pub refused : windowGood w ≡ false → outcome st (search w l) .said ≡ searched (Refused 8 0) l
 
+abbrev pub Wanted : State → Window → ℕ → Type 0
+Wanted st w s = (isLiveIn st s ≡ true) × (meetsWindow (sidesOf (contentOf (st .map) s .slot)) w ≡ true)
+
 abbrev pub SearchFinds : Type 0
-SearchFinds = (st : State) (w : Window) (l : List ℕ) → Good st → SearchSays st w l
+SearchFinds = (st : State) (w : Window) (l : List ℕ) → Good st → SearchSays (Wanted st w) st w l
+
+-- ---- and so does a search of a map of 9 to 11: status 1 or 2, Len not 0
+pub record WideWanted (m : List ℕ) (n : ℕ) (w : Window) (s : ℕ) : Type 0 where
+  pub exists : s < blockCells * n
+  pub live : wideLive (wideSlotOf m (slotAtOf wide m s)) ≡ true
+  pub meets : meetsWindow (rectangleAt m (slotAtOf wide m s)) w ≡ true
+
+abbrev pub WideSearchFinds : Type 0
+WideSearchFinds =
+    (st : State) (w : Window) (l : List ℕ) (n : ℕ) → verdict (st .map) (st .used) ≡ Accepted n → isWide (versionOf (st .map)) ≡ true
+    → SearchSays (WideWanted (st .map) n w) st w l
 
 -- ---- and so it lists an added object, in every window that the least rectangle over its pairs meets, unless the list is shorter than the count
 abbrev pub Lists : ℕ → List ℕ → Said → Type 0
@@ -115,7 +134,7 @@ Lists s l (searched (Refused n p) after) = ⊥
 abbrev pub AddedIsFound : Type 0
 AddedIsFound =
     (st : State) (e : ℕ) (o : List ℕ) (w : Window) (l : List ℕ) → Good st → Sent (add e o) → isDone st (add e o) ≡ true
-    → windowGood w ≡ true → meetsWindow (slotAdded (st .map) (st .used) o) w ≡ true
+    → windowGood w ≡ true → meetsWindow (sidesOf (slotAdded (st .map) (st .used) o)) w ≡ true
     → Lists (slotSaid (outcome st (add e o) .said)) l (outcome (step st (add e o)) (search w l) .said)
 
 -- ---- a slot that was live, and is live again after removals and reinstatements, has the content it had
@@ -169,6 +188,24 @@ abbrev pub NumbersOnce : Type 0
 NumbersOnce =
     (st : State) (xs : List Event) → Good st → Fair st xs
     → Once (st .journal) (numbersIn st xs) × (numbersOf (recordsIn st xs) ≡ numbersIn st xs)
+
+-- ---- on an accepted map of 9 to 11 no run changes a byte of the map or of the journal, whatever the journal is; no edit is done, and each is answered 17
+abbrev pub IsEdit : Call → Type 0
+IsEdit (add e o) = Unit {0}
+IsEdit (remove e s) = Unit {0}
+IsEdit (reinstate e s) = Unit {0}
+IsEdit (search w l) = ⊥
+
+pub record Untouched (st : State) (xs : List Event) : Type 0 where
+  pub map : mapOf (run st xs) ≡ mapOf st
+  pub used : run st xs .used ≡ st .used
+  pub journal : run st xs .journal ≡ st .journal
+  pub none : doneIn st xs ≡ []
+  pub told : (c : Call) → IsEdit c → outcome (run st xs) c .said ≡ edited (edits.Refused 17 0)
+
+abbrev pub WideStays : Type 0
+WideStays =
+    (st : State) (xs : List Event) (n : ℕ) → verdict (st .map) (st .used) ≡ Accepted n → isWide (versionOf (st .map)) ≡ true → Fair st xs → Untouched st xs
 
 -- ---- refusals and "done before" change nothing, and neither does a search
 abbrev pub NothingElse : Type 0

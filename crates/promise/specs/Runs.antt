@@ -16,7 +16,7 @@
 --     blocksIn m used     the number of index blocks of an accepted map
 --     isLiveIn st s       whether slot s is live
 --     contentOf m s       a slot's contents: its fields, which are its 24 bytes, and its object's bytes
---     Good st             the map is accepted, and the journal is well formed for it
+--     Good st             the map is accepted and of 6 to 8, and the journal is well formed for it
 --     Sent c              the arguments are what a machine can send: numbers of 32 bits, bytes
 --     HoldsMap st b       buffer b holds the map of st
 --     Fair st xs          what may happen between calls and what may not: calls carry what a machine can send, and a buffer that is handed in holds the map
@@ -33,7 +33,7 @@ use Rattle.slots.specs.declared.State.the-variants.{Live}
 use Rattle.records.specs.declared.JournalRecord.{JournalRecord}
 use Rattle.windows.specs.declared.Window.{Window}
 use Rattle.slots.specs.Slots.{bytesIn, slotBytes}
-use Rattle.records.specs.Headers.{indexHead}
+use Rattle.records.specs.Headers.{indexHead, isWide}
 use Rattle.chain.specs.Chains.{place}
 use Rattle.judge.specs.Rules.{slotAt}
 use Rattle.records.specs.Journals.{recordFor}
@@ -182,6 +182,7 @@ contentOf m s =
 pub record Good (st : State) : Type 0 where
   pub blocks : ℕ
   pub accepted : verdict (st .map) (st .used) ≡ verdicts.Accepted blocks
+  pub narrow : isWide (versionOf (st .map)) ≡ false
   pub well : wellFormed (st .journal) (st .map) blocks ≡ true
   pub map-bytes : Bytes (st .map)
   pub journal-bytes : Bytes (st .journal)

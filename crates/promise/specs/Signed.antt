@@ -6,9 +6,10 @@
 --     EitherWay p                p is the same number, read either way
 --     PartEitherWay p            the position and the size of setup or info, where present
 --     ChainEitherWay m h bs      the first link, where each block starts, and its link
---     AcceptedEitherWay h        all of them in a map that is accepted; and the Size of each symbol record, which is signed 16-bit
-use Prim.Native.Nat.{ℕ, _*_, _≤_, _<_}
-use mathlib.Core.Bool.{true, false}
+--     AcceptedEitherWay b h      all of them in a map that is accepted, of 9 to 11 where b is true; and the Size of each symbol record, which is signed 16-bit in 6 to
+--                                8 and 32-bit in 9 to 11, and there the Len of each live slot
+use Prim.Native.Nat.{ℕ, _+_, _*_, _≤_, _<_}
+use mathlib.Core.Bool.{Bool, true, false}
 use mathlib.Core.Path.{_≡_}
 use mathlib.Core.Logic.{_⊎_, _↔_}
 use mathlib.Core.List.{List}
@@ -18,12 +19,12 @@ use lib.Signed.{leZ}
 use Rattle.numbers.specs.Bytes.{u16At, u32At}
 use Rattle.numbers.specs.Coordinates.{signed16, signed32}
 use Rattle.records.specs.declared.Part.{Part}
-use Rattle.records.specs.Sizes.{headerSize, mapLimit, slotSize, entrySize, blockCells}
-use Rattle.records.specs.Headers.{partOf, setupAt, infoAt, indexHead, symbolHead}
-use Rattle.slots.specs.Slots.{slotOf, stateOf}
+use Rattle.records.specs.Sizes.{headerSize, mapLimit, entrySize, blockCells}
+use Rattle.records.specs.Headers.{partOf, setupAt, infoAt, indexHead, symbolHead, isWide}
 use Rattle.chain.specs.Chains as chains
-use Rattle.judge.specs.Judging.{isLive}
-use Rattle.accept.specs.Meets.{Inside, Present, Meets, cellOf}
+use Rattle.judge.specs.Judging.{versionOf}
+use Rattle.judge.specs.Rules.{familyFor}
+use Rattle.accept.specs.Meets.{Inside, Present, conditionsFor, MeetsOf, Meets, cellOf}
 
 pub record InsideSigned (used : ℕ) (p n : ℤ) : Type 0 where
   pub low : leZ (pos headerSize) p ≡ true
@@ -48,17 +49,22 @@ pub record ChainEitherWay (m : List ℕ) (h : ℕ) (bs : List ℕ) : Type 0 wher
   pub blocks : (k : ℕ) → k < length bs → EitherWay (getD bs k 0)
   pub links : (k : ℕ) → k < length bs → EitherWay (u32At m (getD bs k 0))
 
-pub record AcceptedEitherWay {m : List ℕ} {used n : ℕ} (h : Meets m used n) : Type 0 where
-  pub setup : PartEitherWay (partOf m setupAt)
-  pub info : PartEitherWay (partOf m infoAt)
+pub record AcceptedEitherWay (b : Bool) {m : List ℕ} {used n : ℕ} (h : MeetsOf (familyFor b) (conditionsFor b) m used n) : Type 0 where
+  pub setup : b ≡ false → PartEitherWay (partOf m setupAt)
+  pub info : b ≡ false → PartEitherWay (partOf m infoAt)
   pub index : ChainEitherWay m indexHead (h .blocks)
   pub symbol : ChainEitherWay m symbolHead (h .symbols)
   -- every entry, used or not; and the Size of the record of one that is used
   pub entries : (e : ℕ) → e < blockCells * length (h .symbols) → EitherWay (u32At m (cellOf (h .symbols) entrySize e))
-  pub sizes : (e : ℕ) → e < blockCells * length (h .symbols) → (u32At m (cellOf (h .symbols) entrySize e) ≡ 0 → ⊥)
+  pub sizes : b ≡ false → (e : ℕ) → e < blockCells * length (h .symbols) → (u32At m (cellOf (h .symbols) entrySize e) ≡ 0 → ⊥)
       → signed16 (u16At m (u32At m (cellOf (h .symbols) entrySize e))) ≡ pos (u16At m (u32At m (cellOf (h .symbols) entrySize e)))
-  pub slots : (s : ℕ) → s < blockCells * length (h .blocks) → isLive (stateOf (slotOf m (cellOf (h .blocks) slotSize s))) ≡ true
-      → EitherWay (slotOf m (cellOf (h .blocks) slotSize s) .position)
+  pub wide-sizes : b ≡ true → (e : ℕ) → e < blockCells * length (h .symbols) → (u32At m (cellOf (h .symbols) entrySize e) ≡ 0 → ⊥)
+      → EitherWay (u32At m (u32At m (cellOf (h .symbols) entrySize e)))
+  -- where a live slot has its position, and in 9 to 11 its Len
+  pub slots : (s : ℕ) → s < blockCells * length (h .blocks) → familyFor b .live m (cellOf (h .blocks) (familyFor b .slot) s) ≡ true
+      → EitherWay (u32At m (cellOf (h .blocks) (familyFor b .slot) s + 16))
+  pub lens : b ≡ true → (s : ℕ) → s < blockCells * length (h .blocks) → familyFor b .live m (cellOf (h .blocks) (familyFor b .slot) s) ≡ true
+      → EitherWay (u32At m (cellOf (h .blocks) (familyFor b .slot) s + 20))
 
 pub record SignedAsWritten : Type 0 where
   -- a range is inside read signed exactly when it is inside read unsigned
@@ -74,4 +80,4 @@ pub record SignedAsWritten : Type 0 where
   -- and so what is negative, a position, a link or a size, is never inside, read unsigned
   pub negative : (used p n : ℕ) → used ≤ mapLimit → (leZ (pos 0) (signed32 p) ≡ false) ⊎ (leZ (pos 0) (signed32 n) ≡ false) → Inside used p n → ⊥
   -- what an accepted map has of them is the same number either way
-  pub accepted : (m : List ℕ) (used n : ℕ) (h : Meets m used n) → AcceptedEitherWay h
+  pub accepted : (m : List ℕ) (used n : ℕ) (h : Meets m used n) → AcceptedEitherWay (isWide (versionOf m)) h

@@ -14,7 +14,7 @@ use Rattle.numbers.specs.Bytes.{Bytes}
 use Rattle.numbers.specs.Coordinates.{valueOf}
 use Rattle.slots.specs.declared.Slot.{Slot}
 use Rattle.windows.specs.declared.Window.{Window}
-use Rattle.windows.specs.Windows.{meetsWindow}
+use Rattle.windows.specs.Windows.{sidesOf, meetsWindow}
 use Rattle.accept.specs.declared.Verdict.the-variants.{Accepted}
 use Rattle.judge.specs.Judging.{versionOf}
 use Rattle.accept.specs.Verdicts.{verdict}
@@ -50,8 +50,8 @@ pub record Table : Type 0 where
   pub coordinates : map valueOf (25602 ∷ 255 ∷ 4294967295 ∷ 4294967040 ∷ 4294967039 ∷ 2147483647 ∷ 2147483648 ∷ [])
       ≡ pos 100 ∷ pos 0 ∷ negsuc 0 ∷ negsuc 0 ∷ negsuc 1 ∷ pos 8388607 ∷ negsuc 8388607 ∷ []
   -- point (5, 5): found by 5..10 both ways, not by 6..10
-  pub found : meetsWindow pointSlot (square 5 10) ≡ true
-  pub missed : meetsWindow pointSlot (square 6 10) ≡ false
+  pub found : meetsWindow (sidesOf pointSlot) (square 5 10) ≡ true
+  pub missed : meetsWindow (sidesOf pointSlot) (square 6 10) ≡ false
   -- the empty map of 48 bytes is accepted; its slot for the object; the length after one add; and after a second
   pub accepted : verdict empty7 48 ≡ Accepted 0
   pub slot : slotFor 7 pointObject 48 ≡ pointSlot
