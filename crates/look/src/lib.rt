@@ -1,4 +1,5 @@
 // The look at the slots in one pass: each is judged, and has a bit that says whether the search lists it.
+mod wide_words;
 mod words;
 
 use bits::WORD;
@@ -11,8 +12,8 @@ use records::LINK;
 use records::is_wide;
 use slots::IndexBlock;
 use windows::Window;
+use wide_words::look_in_wide_word;
 use words::Word;
-use words::look_in_wide_word;
 use words::look_in_word;
 ghost use mathlib.Core.Path.{_≡_};
 ghost use Prim.Native.Nat.{_+_, _*_, _≤_, _<_};

@@ -1,4 +1,4 @@
--- `look::words::look_in_wide_word` meets its contract, by the laws of the look at the cells and of their bits. The measure is what is left of the word's slots. Assumes nothing.
+-- `look::wide_words::look_in_wide_word` meets its contract, by the laws of the look at the cells and of their bits. The measure is what is left of the word's slots. Assumes nothing.
 use native.Mathlib.Omega.{arith}
 use Prim.Native.Nat.{ℕ, _+_, _-_, _≤_}
 use mathlib.Core.Path.{_≡_, refl, sym, ap, subst, _∙_}
@@ -14,8 +14,8 @@ use Rattle.judge.specs.Rules.{wide}
 use Rattle.look.specs.Found.{liveAt}
 use Rattle.look.specs.Looks.{slotFrom, liveFrom}
 use Rattle.look.proofs.Looks.{one-at-most, Looks, looks-start, looks-low, looks-on, looks-past, looks-done, unwanted-dead, wanted-wide}
-use Rattle.look.proofs.words.look_in_wide_word.Statement.{statement}
-use Rattle.look.proofs.words.look_in_wide_word.Tie as tie
+use Rattle.look.proofs.wide_words.look_in_wide_word.Statement.{statement}
+use Rattle.look.proofs.wide_words.look_in_wide_word.Tie as tie
 
 abbrev Inv-loop : tie.InvT-loop
 Inv-loop m used index from w at₀ bits₀ j₀ at bits j =
