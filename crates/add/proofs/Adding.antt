@@ -19,10 +19,9 @@ use Rattle.slots.specs.declared.Slot.{Slot}
 use Rattle.slots.specs.Slots.{slotBytes}
 use Rattle.records.specs.Journals.{recordFor}
 use Rattle.slots.proofs.Slots.{length-slotBytes}
-use Rattle.chain.proofs.Chains.{few}
 use Rattle.judge.specs.Judging.{versionOf}
 use Rattle.judge.proofs.Telling.{and-true}
-use Rattle.journal.specs.declared.JournalLook.the-variants.{Held, New}
+use Rattle.journal.specs.declared.JournalLook.the-variants.{Held}
 use Rattle.journal.specs.Journals.{recordIn, slotUsed, holder, isFull, appended, looked}
 use Rattle.journal.proofs.Journals.{good-tells, well-formed-tells, held-tells, looked-held}
 use Rattle.edit.specs.declared.EditAnswer.the-variants.{Done, Refused}
