@@ -25,7 +25,13 @@ ghost use Rattle.accept.specs.Opens.{entryFault};
 ghost use Rattle.accept.specs.Verdicts.{cellsJudged, entriesJudged, symbolsJudged};
 
 // 6, of one symbol block: the first entry at fault.
-fn judge_block_entries(m: &[u8], used: usize, version: u16, index: &[u32], block: usize) -> JudgedMap
+fn judge_block_entries(
+    m: &[u8],
+    used: usize,
+    version: u16,
+    index: &[u32],
+    block: usize,
+) -> JudgedMap
     requires { ⌜ (block + symbolBlockSize ≤ used) × Indexed (familyIn version .block) (now m) used (now index) ⌝ }
     ensures { λ r. ⌜ r
         ≡ cellsJudged 6 (λ e. entryFault version (now (m .entry)) used (now (index .entry)) (cellIn block entrySize e)) (cellIn block entrySize) blockCells ⌝ }

@@ -5,7 +5,6 @@ use chain::meets_block;
 use numbers::at_most;
 use numbers::u16_at;
 use records::Header;
-use records::LINK;
 use records::Part;
 use records::SymbolBlock;
 use records::is_wide;
@@ -16,6 +15,7 @@ use slots::Slot;
 use slots::bytes_in;
 use slots::bytes_in_range;
 use slots::type_good;
+use wide::WideBlock;
 use wide::WideSlot;
 use wide::wide_bad_entry;
 ghost use mathlib.Core.Path.{_≡_};
@@ -157,7 +157,7 @@ pub fn block_size(version: u16) -> usize
     ensures { λ r. ⌜ r ≡ familyIn version .block ⌝ }
 {
     if is_wide(version) {
-        return WideSlot::BLOCK;
+        return WideBlock::SIZE;
     }
     IndexBlock::SIZE
 }
@@ -178,7 +178,7 @@ pub fn slot_place(version: u16, block: usize, j: usize) -> usize
     ensures { λ r. ⌜ r ≡ cellIn block (familyIn version .slot) j ⌝ }
 {
     if is_wide(version) {
-        return block + LINK + WideSlot::SIZE * j;
+        return WideBlock::new(block).slot(j);
     }
     IndexBlock::new(block).slot(j)
 }

@@ -26,7 +26,14 @@ pub struct Word {
 pub const HIGH: u64 = 9223372036854775808;
 
 // A word's slots in a row, from a place on: judged, and looked at, up to the first at fault.
-pub fn look_in_word(m: &[u8], used: usize, version: u16, index: &[u32], from: usize, w: Window) -> Word
+pub fn look_in_word(
+    m: &[u8],
+    used: usize,
+    version: u16,
+    index: &[u32],
+    from: usize,
+    w: Window,
+) -> Word
     requires { ⌜ (from + wordBits * slotSize ≤ used) × Indexed indexBlockSize (now m) used (now index) ⌝ }
     ensures { λ r. ⌜ (r .bad
         ≡ first (λ j. badSlot (endsMeet indexBlockSize (now (index .entry))) (now (m .entry)) used version (slotFrom slotSize from j)) wordBits)

@@ -1,9 +1,9 @@
 // The search program: reads a window and then a map from standard input, and writes the blocks walked, the count found and a line for each slot found; or the
 // refusal. The search is `find`'s. What is here follows the links once more for the lines, with a test before every read.
 use find::SearchAnswer;
+use judge::slot_place;
 use libc::STDIN_FILENO;
 use libc::STDOUT_FILENO;
-use judge::slot_place;
 use numbers::u16_at;
 use numbers::u32_at;
 use records::Header;

@@ -5,15 +5,41 @@ use numbers::at_most;
 use numbers::u16_at;
 use numbers::u32_at;
 use records::Header;
+use records::LINK;
 ghost use mathlib.Core.Path.{_≡_};
 ghost use Prim.Native.Nat.{ℕ, _+_, _*_, _≤_, _<_};
 ghost use lib.ListN.{length};
 ghost use Rattle.numbers.specs.Bytes.{u32At};
-ghost use Rattle.records.specs.Sizes.{wideBlockSize, wideSlotSize, wideHeaderSize};
+ghost use Rattle.records.specs.Sizes.{wideBlockSize, wideSlotSize, wideHeaderSize, blockCells, linkSize};
 ghost use Rattle.chain.specs.Tables.{endsMeet};
 ghost use Rattle.chain.specs.Indexed.{Indexed};
 ghost use Rattle.wide.specs.Slots.{wideSlotOf, wideLive, wideObjectOf, wideTypeGood, wideBytes, wideObjectGood, wideSlotGood, wideBadSlot};
 ghost use Rattle.wide.specs.Symbols.{wideSymbolGood, wideBadEntry};
+
+// An index block of 9 to 11, by where it starts: a link, then 256 slots.
+pub struct WideBlock {
+    pub at: usize,
+}
+
+impl WideBlock {
+    pub const SIZE: usize = 10244;
+    // A table of them goes by pages of so many bytes.
+    pub const PAGE: usize = 4096;
+
+    pub fn new(at: usize) -> WideBlock
+        ensures { λ r. ⌜ r .at ≡ at ⌝ }
+    {
+        WideBlock { at }
+    }
+
+    // Where slot j of the block stands.
+    pub fn slot(self, j: usize) -> usize
+        requires { ⌜ (self .at ≤ 4294967296) × (j < blockCells) ⌝ }
+        ensures { λ r. ⌜ r ≡ self .at + linkSize + wideSlotSize * j ⌝ }
+    {
+        self.at + LINK + WideSlot::SIZE * j
+    }
+}
 
 // A slot of 9 to 11. Coordinates are raw; Sym is kept as its 32 bits.
 pub struct WideSlot {
@@ -29,10 +55,6 @@ pub struct WideSlot {
 
 impl WideSlot {
     pub const SIZE: usize = 40;
-    // An index block of 256 such slots; a table of them goes by pages of so many bytes.
-    pub const BLOCK: usize = 10244;
-
-    pub const PAGE: usize = 4096;
 
     // The slot at a place.
     pub fn at(m: &[u8], at: usize) -> WideSlot
@@ -145,7 +167,7 @@ fn wide_object_good(m: &[u8], used: usize, index: &[u32], t: WideSlot) -> bool
     if used < at + bytes {
         return false;
     }
-    !meets_block(index, WideSlot::PAGE, WideSlot::BLOCK, at, bytes)
+    !meets_block(index, WideBlock::PAGE, WideBlock::SIZE, at, bytes)
 }
 
 // Whether a slot that has a Len would be good as a live one.
@@ -174,8 +196,15 @@ pub fn wide_bad_slot(m: &[u8], used: usize, index: &[u32], t: WideSlot) -> bool
     !wide_slot_good(m, used, index, t)
 }
 
-// A symbol record of 9 to 11 has at least so many bytes.
-const RECORD: usize = 572;
+// A symbol record of 9 to 11, by its Size.
+pub struct WideRecord {
+    pub size: u32,
+}
+
+impl WideRecord {
+    // The least Size: the part that all symbols of 9 have.
+    pub const SIZE: usize = 572;
+}
 
 // Whether a symbol record is good. A Size that is negative is past every map's end.
 fn wide_symbol_good(m: &[u8], used: usize, index: &[u32], at: usize) -> bool
@@ -189,13 +218,13 @@ fn wide_symbol_good(m: &[u8], used: usize, index: &[u32], at: usize) -> bool
         return false;
     }
     let size = u32_at(m, at) as usize;
-    if size < RECORD {
+    if size < WideRecord::SIZE {
         return false;
     }
     if used < at + size {
         return false;
     }
-    !meets_block(index, WideSlot::PAGE, WideSlot::BLOCK, at, size)
+    !meets_block(index, WideBlock::PAGE, WideBlock::SIZE, at, size)
 }
 
 // Whether a symbol entry that says p is used and its record is not good.
