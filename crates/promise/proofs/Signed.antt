@@ -1,8 +1,8 @@
 -- Signed and unsigned are the same below 2,147,483,648, and what lies inside a map is below that, read either way. Assumes nothing.
 use Prim.Native.Nat.{ℕ, zero, suc, _+_, _≤_, _<_}
-use mathlib.Core.Bool.{true, false}
+use mathlib.Core.Bool.{Bool, true, false}
 use mathlib.Core.Path.{_≡_, refl, sym, ap, _∙_}
-use mathlib.Core.Logic.{_⊎_, ⊎-elim, _↔_}
+use mathlib.Core.Logic.{_⊎_, inl, inr, ⊎-elim, _↔_}
 use mathlib.Core.List.{List}
 use native.Mathlib.Nat.{not-suc-le-zero}
 use native.Mathlib.Omega.{arith}
@@ -11,18 +11,22 @@ use lib.IntN.{pos}
 use lib.ListN.{length, getD}
 use lib.Signed.{leZ, mag}
 use borrow.Author.Tests.{le-leb, leb-true}
-use Rattle.numbers.specs.Bytes.{u32At}
+use Rattle.numbers.specs.Bytes.{u16At, u32At}
 use Rattle.numbers.specs.Coordinates.{signed, signed16, signed32}
 use Rattle.numbers.proofs.Coordinates.{lt-or-ge, signed-low, signed-high}
 use Rattle.numbers.proofs.Ranges.{within-true, within-is}
 use Rattle.numbers.proofs.Below.{never}
 use Rattle.records.specs.declared.Part.{Part}
 use Rattle.records.specs.Sizes.{headerSize, mapLimit, symbolRecordSize, entrySize}
-use Rattle.records.specs.Headers.{partOf, setupAt, infoAt}
+use Rattle.records.specs.Headers.{partOf, setupAt, infoAt, isWide}
 use Rattle.records.specs.Symbols.{sizeGood}
+use Rattle.slots.specs.Slots.{slotOf}
+use Rattle.wide.specs.Slots.{wideSlotOf}
 use Rattle.chain.specs.Chains as chains
 use Rattle.chain.specs.Chains.{Links, end, link}
-use Rattle.accept.specs.Meets.{Inside, Present, Chain, Meets, cellOf}
+use Rattle.judge.specs.Judging.{versionOf}
+use Rattle.judge.specs.Rules.{familyFor}
+use Rattle.accept.specs.Meets.{Inside, Present, Chain, HasBytes, conditionsFor, MeetsOf, cellOf}
 use Rattle.promise.specs.Signed.{InsideSigned, PresentSigned, EitherWay, PartEitherWay, ChainEitherWay, AcceptedEitherWay, SignedAsWritten}
 
 -- ---- one number
@@ -140,17 +144,54 @@ size-way : (n : ℕ) → sizeGood n ≡ true → signed16 n ≡ pos n
 unfolding sizeGood
 size-way n e = at-least _ symbolRecordSize n e
 
-accepted-way : (m : List ℕ) (used n : ℕ) (h : Meets m used n) → AcceptedEitherWay h
-accepted-way m used n h =
+-- a Len of 9 to 11 is at most the object's bytes
+len-way : (used p len k bytes : ℕ) → used ≤ mapLimit → Inside used p bytes → HasBytes len k bytes → EitherWay len
+len-way used p len k bytes l i (inl (e, b)) = low-way len (omega (arith, i .high))
+len-way used p len k bytes l i (inr (e, b)) = low-way len (omega (arith, i .high))
+
+-- what the two layouts have of them
+record LayoutWay (b : Bool) (m : List ℕ) (used : ℕ) (index : List ℕ) : Type 0 where
+  parts : conditionsFor b .Header m used → b ≡ false → PartEitherWay (partOf m setupAt) × PartEitherWay (partOf m infoAt)
+  entry : (q : ℕ) → conditionsFor b .Record m used index q → EitherWay q
+  size : (q : ℕ) → conditionsFor b .Record m used index q → b ≡ false → signed16 (u16At m q) ≡ pos (u16At m q)
+  wide-size : (q : ℕ) → conditionsFor b .Record m used index q → b ≡ true → EitherWay (u32At m q)
+  position : (p : ℕ) → conditionsFor b .LiveSlot m used index p → EitherWay (u32At m (p + 16))
+  len : (p : ℕ) → conditionsFor b .LiveSlot m used index p → b ≡ true → EitherWay (u32At m (p + 20))
+
+layout-way : (b : Bool) (m : List ℕ) (used : ℕ) (index : List ℕ) → used ≤ mapLimit → LayoutWay b m used index
+unfolding slotOf wideSlotOf
+layout-way true m used index l =
     record {
-      setup = part-way used (partOf m setupAt) (h .most) (h .setup);
-      info = part-way used (partOf m infoAt) (h .most) (h .info);
+      parts = λ h e. absurd (never e);
+      entry = λ q g. inside-way used q 4 l (g .start) .0;
+      size = λ q g e. absurd (never e);
+      wide-size = λ q g e. inside-way used q (u32At m q) l (g .lies) .1;
+      position = λ p g. inside-way used (u32At m (p + 16)) (g .bytes) l (g .lies) .0;
+      len = λ p g e. len-way used (u32At m (p + 16)) (u32At m (p + 20)) _ (g .bytes) l (g .lies) (g .len);
+    }
+layout-way false m used index l =
+    record {
+      parts = λ h e. (part-way used (partOf m setupAt) l (h .setup), part-way used (partOf m infoAt) l (h .info));
+      entry = λ q g. inside-way used q 2 l (g .start) .0;
+      size = λ q g e. size-way (u16At m q) (g .size);
+      wide-size = λ q g e. absurd (never (sym e));
+      position = λ p g. inside-way used (u32At m (p + 16)) _ l (g .lies) .0;
+      len = λ p g e. absurd (never (sym e));
+    }
+
+accepted-way : (b : Bool) (m : List ℕ) (used n : ℕ) (h : MeetsOf (familyFor b) (conditionsFor b) m used n) → AcceptedEitherWay b h
+accepted-way b m used n h =
+    let w : LayoutWay b m used (h .blocks) = layout-way b m used (h .blocks) (h .most) in
+    record {
+      setup = λ e. w .parts (h .header) e .0;
+      info = λ e. w .parts (h .header) e .1;
       index = chain-way (h .most) (h .index);
       symbol = chain-way (h .most) (h .symbol);
-      entries = λ e l.
-          either-way (u32At m (cellOf (h .symbols) entrySize e)) (λ ne. inside-way used _ 2 (h .most) (h .entries e l ne .start) .0);
-      sizes = λ e l ne. size-way _ (h .entries e l ne .size);
-      slots = λ s l live. inside-way used _ _ (h .most) (h .slots s l live .lies) .0;
+      entries = λ e l. either-way (u32At m (cellOf (h .symbols) entrySize e)) (λ ne. w .entry _ (h .entries e l ne));
+      sizes = λ z e l ne. w .size _ (h .entries e l ne) z;
+      wide-sizes = λ z e l ne. w .wide-size _ (h .entries e l ne) z;
+      slots = λ s l live. w .position _ (h .slots s l live);
+      lens = λ z s l live. w .len _ (h .slots s l live) z;
     }
 
 pub signed-as-written : SignedAsWritten
@@ -162,5 +203,5 @@ signed-as-written =
       present = present-signed;
       zero = λ n. (signed-zero n, zero-signed n);
       negative = never-inside;
-      accepted = accepted-way;
+      accepted = λ m used n h. accepted-way (isWide (versionOf m)) m used n h;
     }

@@ -1,4 +1,4 @@
--- No refusal has number 0: where the check, a search or an edit refuses, it names one of 1 to 15. Assumes nothing.
+-- No refusal has number 0: where the check, a search or an edit refuses, it names one of 1 to 15 or 17. Assumes nothing.
 --     Some j, ToldCheck v, ToldSearch a, ToldStart s, Told a     where it is a fault or a refusal, its number is not 0
 use Prim.Native.Nat.{ℕ, _*_, _<_}
 use mathlib.Core.Bool.{Bool, true, false, cond, _&&_}
@@ -10,11 +10,12 @@ use lib.Dec.{ltb, leb, eqb}
 use lib.ListN.{length}
 use Rattle.numbers.specs.Below.{first}
 use Rattle.records.specs.Sizes.{mapLimit}
-use Rattle.records.specs.Headers.{headerOf, pairGood}
+use Rattle.records.specs.declared.Header.{Header}
+use Rattle.records.specs.Headers.{headerOf, versionGood, isWide}
 use Rattle.chain.specs.declared.Walk.{Walk}
 use Rattle.chain.specs.declared.Walk.the-variants.{Blocks, Fault}
 use Rattle.chain.specs.Chains.{walked, taken}
-use Rattle.judge.specs.Rules.{Family, narrow, indexRule, symbolRuleOf, touchesOf, slotAtOf, entryAt}
+use Rattle.judge.specs.Rules.{Family, familyOf, indexRuleOf, symbolRuleOf, touchesOf, slotAtOf, entryAt}
 use Rattle.judge.specs.Judging.{versionOf, lengthGood, partGood}
 use Rattle.windows.specs.declared.Window.{Window}
 use Rattle.windows.specs.Windows.{windowGood}
@@ -23,13 +24,14 @@ use Rattle.accept.specs.declared.Verdict.the-variants as verdicts
 use Rattle.accept.specs.declared.JudgedMap.{JudgedMap}
 use Rattle.accept.specs.declared.JudgedMap.the-variants.{Good, Bad}
 use Rattle.accept.specs.Verdicts as checks
-use Rattle.accept.specs.Verdicts.{unless, firstOf, cellsJudged, fieldsJudged, headerJudged, linkJudged, entriesJudgedOf, symbolsJudgedOf, slotsJudgedOf, afterIndexOf, verdict}
+use Rattle.accept.specs.Verdicts.{unless, firstOf, cellsJudged, partsJudged, fieldsJudged, headerJudged, linkJudged, entriesJudgedOf, symbolsJudgedOf, slotsJudgedOf, afterIndexOf, verdict}
 use Rattle.accept.specs.Meets.{Meets}
 use Rattle.accept.proofs.Meets.{accepted-exactly}
 use Rattle.find.specs.declared.SearchAnswer.{SearchAnswer}
 use Rattle.find.specs.declared.SearchAnswer.the-variants as answers
 use Rattle.find.specs.Searches as searches
-use Rattle.find.specs.Searches.{found, answerFor, answerOf}
+use Rattle.find.specs.Searches.{answerFor, answerOf}
+use Rattle.look.specs.Found.{found}
 use Rattle.journal.specs.declared.JournalLook.{JournalLook}
 use Rattle.journal.specs.declared.JournalLook.the-variants.{Malformed, Held, New}
 use Rattle.journal.specs.Journals.{looked, isFull}
@@ -82,15 +84,18 @@ some-cells : (number : ℕ) (bad : ℕ → Bool) (place : ℕ → ℕ) (n : ℕ)
 unfolding cellsJudged
 some-cells number bad place n l = of-cond Some (ltb (first bad n) n) _ _ l tt
 
+some-parts : (h : Header) (used : ℕ) → Some (partsJudged h used)
+unfolding partsJudged
+some-parts h used =
+    of-cond Some (partGood used (h .setup)) _ _ (of-cond Some (partGood used (h .info)) _ _ tt (omega arith)) (omega arith)
+
 some-header : (m : List ℕ) (used : ℕ) → Some (headerJudged m used)
 unfolding headerJudged fieldsJudged
 some-header m used =
     of-cond Some (lengthGood m used) _ _
     (of-cond Some (eqb (headerOf m .mark) 3245) _ _
-    (of-cond Some (pairGood (headerOf m .version) (headerOf m .section)) _ _
-    (of-cond Some (partGood used (headerOf m .setup)) _ _
-    (of-cond Some (partGood used (headerOf m .info)) _ _ tt (omega arith))
-    (omega arith))
+    (of-cond Some (versionGood (headerOf m)) _ _
+    (of-cond Some (isWide (headerOf m .version)) _ _ tt (some-parts (headerOf m) used))
     (omega arith))
     (omega arith))
     (omega arith)
@@ -125,8 +130,9 @@ told-index f m used (Fault p n) = omega arith
 pub told-check : (m : List ℕ) (used : ℕ) → ToldCheck (verdict m used)
 unfolding verdict
 told-check m used =
-    told-unless (headerJudged m used) (afterIndexOf narrow m used (walked (indexRule m) m used)) (some-header m used)
-    (told-index narrow m used (walked (indexRule m) m used))
+    let f : Family = familyOf m in
+    told-unless (headerJudged m used) (afterIndexOf f m used (walked (indexRuleOf f m) m used)) (some-header m used)
+    (told-index f m used (walked (indexRuleOf f m) m used))
 
 check-tells : (m : List ℕ) (used : ℕ) (v : Verdict) → verdict m used ≡ v → ToldCheck v → checks.numberOf v ≡ 0 → (n : ℕ) × Meets m used n
 check-tells m used (verdicts.Accepted n) q t z = (n, accepted-exactly m used n .1 q)
@@ -175,7 +181,7 @@ told-look m n (New k) = tt
 
 told-checked : (m j : List ℕ) (e : ℕ) (v : Verdict) → ToldCheck v → ToldStart (afterCheck m j e v)
 told-checked m j e (verdicts.Refused k p) t = t
-told-checked m j e (verdicts.Accepted n) t = told-look m n (looked j m n e)
+told-checked m j e (verdicts.Accepted n) t = of-cond ToldStart (isWide (versionOf m)) _ _ (omega arith) (told-look m n (looked j m n e))
 
 told-start : (m : List ℕ) (used : ℕ) (j : List ℕ) (e : ℕ) → ToldStart (startOf m used j e)
 unfolding startOf
