@@ -56,7 +56,7 @@ wide-slot-same m m′ p a =
 module _ (m m′ : List ℕ) (p n : ℕ) (a : Agree m m′ p n) where
   -- in the object at p
   byte-in : (k : ℕ) → k < n → getD (drop p m′) k 0 ≡ getD (drop p m) k 0
-  byte-in k l = rw (getD-drop, getD-drop) (a k l)
+  byte-in k l = rw (getD-drop p m′ k 0, getD-drop p m k 0) (a k l)
 
   number-in : (w k : ℕ) → k + w ≤ n → leAt w (drop p m′) k ≡ leAt w (drop p m) k
   number-in w k l = leAt-cong w (drop p m′) (drop p m) k k (λ i r. byte-in (k + i) (omega arith))

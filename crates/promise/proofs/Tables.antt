@@ -15,7 +15,7 @@ use Rattle.numbers.proofs.Below.{first-is}
 use Rattle.slots.specs.declared.State.the-variants.{Free}
 use Rattle.records.specs.declared.JournalRecord.{JournalRecord}
 use Rattle.records.specs.Journals.{recordOf, recordBytes, recordFor, isUnused, shapeGood, kindGood}
-use Rattle.records.specs.Headers.{headerOf, pairGood}
+use Rattle.records.specs.Headers.{headerOf, pairGood, versionGood, isWide}
 use Rattle.records.proofs.Journals.{RecordFits}
 use Rattle.slots.specs.Slots.{stateOf, sameState, lenOf}
 use Rattle.slots.specs.Objects.{objectOf, typeGood}
@@ -24,8 +24,8 @@ use Rattle.windows.specs.Windows.{meetsWindow}
 use Rattle.chain.specs.Chains.{place, block, stops, taken, walked}
 use Rattle.accept.specs.declared.Verdict.the-variants.{Accepted}
 use Rattle.judge.specs.Judging.{versionOf, lengthGood, partGood}
-use Rattle.accept.specs.Verdicts.{cellsJudged, fieldsJudged, headerJudged, verdict, afterIndexOf, entriesJudgedOf, slotsJudgedOf, symbolsJudgedOf}
-use Rattle.accept.proofs.Accepting.{accepted-tells, accepted-is}
+use Rattle.accept.specs.Verdicts.{cellsJudged, partsJudged, fieldsJudged, headerJudged, verdict, Editable, afterIndexOf, entriesJudgedOf, slotsJudgedOf, symbolsJudgedOf}
+use Rattle.accept.proofs.Accepting.{accepted-tells, editable-is}
 use Rattle.frame.proofs.Frame.{version-same}
 use Rattle.journal.specs.Journals.{recordIn, inUse, badRecord, wellFormed, holder, isHeld, isFull, appended}
 use Rattle.journal.proofs.Journals.{appended-well}
@@ -41,17 +41,21 @@ use Rattle.promise.proofs.Moves.{Moved, moved-use, moved-here, added-gr
 use Rattle.promise.specs.Runs.{Good}
 
 accepted : verdict empty7 48 ≡ Accepted 0
-unfolding verdict headerJudged fieldsJudged lengthGood headerOf pairGood partGood leAt afterIndexOf symbolsJudgedOf entriesJudgedOf slotsJudgedOf cellsJudged walked taken first any stops block place
+unfolding verdict headerJudged fieldsJudged partsJudged lengthGood headerOf versionGood isWide pairGood partGood leAt afterIndexOf symbolsJudgedOf entriesJudgedOf slotsJudgedOf cellsJudged walked taken first any stops block place
 accepted = refl
 
 -- the same in any buffer
 accepted-in : (rest : List ℕ) → verdict (empty7 ++ rest) 48 ≡ Accepted 0
-unfolding verdict headerJudged fieldsJudged lengthGood headerOf pairGood partGood leAt afterIndexOf symbolsJudgedOf entriesJudgedOf slotsJudgedOf cellsJudged walked taken first any stops block place
+unfolding verdict headerJudged fieldsJudged partsJudged lengthGood headerOf versionGood isWide pairGood partGood leAt afterIndexOf symbolsJudgedOf entriesJudgedOf slotsJudgedOf cellsJudged walked taken first any stops block place
 accepted-in rest = rw (le-leb 48 (length (empty7 ++ rest)) (omega arith))
 
 seven-in : (rest : List ℕ) → versionOf (empty7 ++ rest) ≡ 7
 unfolding leAt
 seven-in rest = refl
+
+seven-narrow : isWide 7 ≡ false
+unfolding isWide
+seven-narrow = refl
 
 slot : slotFor 7 pointObject 48 ≡ pointSlot
 unfolding slotFor objectOf leAt lenOf rectangleOf withoutMarks coverTo xOf yOf unmarked
@@ -105,12 +109,15 @@ module _ (m : List ℕ) (v : verdict m 48 ≡ Accepted 0) (seven : versionOf m �
   m′ : List ℕ
   m′ = addedMap m 48 0 pointObject
 
+  editable : Editable m 48 0
+  editable = (v, rw seven seven-narrow)
+
   good : offeredGood (versionOf m) pointObject ≡ true
   good = rw seven offered
 
   grown : Grown m m′ 48 6236 0 1 0 pointObject
   unfolding m′ blocksAfter newLength freeSlot first
-  grown = added-grown (accepted-tells m 48 0 v) pointObject point-bytes good (omega arith) room
+  grown = added-grown (accepted-tells m 48 0 editable) pointObject point-bytes good (omega arith) room
 
   -- slot 0 is taken, and slot 1 is free
   taken-zero : sameState Free (stateOf (slotIn m′ 0)) ≡ false
@@ -138,11 +145,11 @@ module _ (m : List ℕ) (v : verdict m 48 ≡ Accepted 0) (seven : versionOf m �
 
   one : added m 48 emptyJournal 1 pointObject ≡ record { answer = Done 0 6236; map = m′; journal = appended emptyJournal firstRecord }
   unfolding m′ newLength freeSlot first
-  one = add-done m 48 emptyJournal 1 pointObject 0 v (λ q. omega arith) (empty-room .0) (empty-well m) good (omega arith) room (empty-room .1)
+  one = add-done m 48 emptyJournal 1 pointObject 0 editable (λ q. omega arith) (empty-room .0) (empty-well m) good (omega arith) room (empty-room .1)
 
   moved : Moved m m′ 48 6236 0 1 0
   unfolding m′ blocksAfter newLength freeSlot first
-  moved = added-moved (accepted-tells m 48 0 v) pointObject point-bytes good (omega arith) room
+  moved = added-moved (accepted-tells m 48 0 editable) pointObject point-bytes good (omega arith) room
 
   first-well : wellFormed (appended emptyJournal firstRecord) m′ 1 ≡ true
   first-well =
@@ -157,7 +164,7 @@ module _ (m : List ℕ) (v : verdict m 48 ≡ Accepted 0) (seven : versionOf m �
   two more =
       let l = length-two in
       rw (
-        add-done m′ 6236 (appended emptyJournal firstRecord) 2 pointObject 1 (accepted-is (grown .holds)) (λ q. omega arith) (first-room .0) first-well
+        add-done m′ 6236 (appended emptyJournal firstRecord) 2 pointObject 1 (editable-is (grown .holds)) (λ q. omega arith) (first-room .0) first-well
             (rw (version-same (grown .change)) good) (omega (arith, l)) (omega (arith, l, length-same)) (first-room .1),
         free-is,
         l,
@@ -180,6 +187,7 @@ good-state rest b =
     record {
       blocks = 0;
       accepted = accepted-in rest;
+      narrow = rw (seven-in rest) seven-narrow;
       well = empty-well (empty7 ++ rest);
       map-bytes = then {ys = rest} empty-bytes (record { all = b }) .all;
       journal-bytes = zero-bytes 32 .all;
