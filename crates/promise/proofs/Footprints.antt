@@ -17,7 +17,7 @@ use Rattle.slots.specs.Objects.{objectOf}
 use Rattle.slots.proofs.Slots.{slot-cong}
 use Rattle.wide.specs.declared.WideSlot.{WideSlot}
 use Rattle.wide.specs.Slots.{wideSlotOf, wideObjectOf}
-use Rattle.records.specs.Headers.{isWide}
+use Rattle.records.specs.Headers.{indexHead, isWide}
 use Rattle.chain.specs.Chains.{Links, end, link}
 use Rattle.chain.specs.Cells.{cellIn}
 use Rattle.judge.specs.Judging.{versionOf}
@@ -216,7 +216,7 @@ module _ (b : Bool) {m m′ : List ℕ} {used used′ n : ℕ} (h : MeetsOf (fam
   slot-agrees : (s : ℕ) → s < 256 * length (h .blocks) → Agree m m′ (cellOf (h .blocks) (familyFor b .slot) s) (familyFor b .slot)
   slot-agrees s l = cell-agrees m m′ (familyFor b .slot) (familyFor b .block) (layout .fits) (h .blocks) (f .index) s l
 
-  index-same : Chain m′ used′ 12 (familyFor b .block) (h .blocks)
+  index-same : Chain m′ used′ indexHead (familyFor b .block) (h .blocks)
   index-same = chain-same m m′ used used′ (f .header) grown (h .index) (omega arith) (omega (arith, layout .fits)) (f .index)
 
   meets-same : MeetsOf (familyFor b) (conditionsFor b) m′ used′ n
