@@ -1,7 +1,7 @@
 """Runs the calls of taffrail.h on a stack of a given size, and tells what each takes of it.
 
 ``python3 support_stack.py BYTES [CALL]`` runs every call, or this one, on the largest map and on a
-small one, and writes a line for each: the call, and the bytes that it took. A call that goes past
+small one, of OCAD 7 and of 9, and writes a line for each: the call, and the bytes that it took. A call that goes past
 the stack comes to a page that nobody may touch, which ends the process: so the tests run it as a
 child.
 """
@@ -17,7 +17,7 @@ from typing import Iterator, List, NamedTuple, Sequence, Tuple
 
 from support_host import object_bytes
 
-from generate import BLOCK, HEADER, HEADER_FORM, LIMIT, RECORD_FORM, SLOT, SLOT_FORM, SYMBOLS
+from generate import HEADER, HEADER_FORM, LIMIT, NEW, OLD, RECORD_FORM, SYMBOLS, Layout
 from taffrail import library
 from taffrail.layout import JOURNAL_LIMIT, MOST_RECORDS
 
@@ -26,8 +26,14 @@ HAS_CONTEXTS = all(hasattr(LIBC, name) for name in ("getcontext", "makecontext",
 PROT_NONE, PR_SET_DUMPABLE = 0, 4
 
 PAINT = b"\xa5"
-MAPS = {"the largest map": (LIMIT - HEADER) // BLOCK, "a small map": 1}  # and their index blocks
+MAPS = {  # with their layouts and their index blocks
+    "the largest map": (OLD, (LIMIT - HEADER) // OLD.block),
+    "a small map": (OLD, 1),
+    "OCAD 9, the largest map": (NEW, (LIMIT - HEADER - 2_048) // NEW.block),
+    "OCAD 9, a small map": (NEW, 1),
+}
 BRIDGE = object_bytes()
+WIDE_BRIDGE = NEW.object_form.pack(101, 1, 1, 0).ljust(40, b"\0") + struct.pack("<2i", 1_280, 1_280)
 GOOD_WINDOW, BAD_WINDOW = (0, 0, 10, 10), (10, 0, 0, 10)
 
 
@@ -90,18 +96,28 @@ class Call(NamedTuple):
 # Maps, journals and how they are lent.
 
 
-def made_map(blocks: int) -> bytes:
+def slot_bytes(layout: Layout, position: int, sym: int) -> bytes:
+    """A slot of the point, live where it has a Sym, and else erased."""
+    if layout is OLD:
+        return layout.slot_form.pack(*[1_280] * 4, position, len(BRIDGE), sym)
+    return layout.slot_form.pack(*[1_280] * 4, position, len(WIDE_BRIDGE), 101, 1 if sym else 0)
+
+
+def made_map(layout: Layout, blocks: int) -> bytes:
     """A map with a symbol block, an object and index blocks. Slot 0 and the last are live, slot 1
     is erased."""
+    bridge = BRIDGE if layout is OLD else WIDE_BRIDGE
     position = HEADER + SYMBOLS
-    first = position + len(BRIDGE)
-    made = bytearray(first + BLOCK * blocks)
-    HEADER_FORM.pack_into(made, 0, 3245, 7, 7, 0, HEADER, first, *[0] * 8)
-    made[position:first] = BRIDGE
-    for block in range(first, len(made) - BLOCK, BLOCK):
-        struct.pack_into("<i", made, block, block + BLOCK)
-    for place, sym in ((first + 4, 101), (first + 4 + SLOT, 0), (len(made) - SLOT, 101)):
-        SLOT_FORM.pack_into(made, place, *[1_280] * 4, position, len(BRIDGE), sym)
+    first = position + len(bridge)
+    made = bytearray(first + layout.block * blocks)
+    version = (7, 7) if layout is OLD else (0, 9)
+    HEADER_FORM.pack_into(made, 0, 3245, *version, 0, HEADER, first, *[0] * 8)
+    made[position:first] = bridge
+    for block in range(first, len(made) - layout.block, layout.block):
+        struct.pack_into("<i", made, block, block + layout.block)
+    places = ((first + 4, 101), (first + 4 + layout.slot, 0), (len(made) - layout.slot, 101))
+    for place, sym in places:
+        made[place : place + layout.slot] = slot_bytes(layout, position, sym)
     return bytes(made)
 
 
@@ -123,9 +139,9 @@ OFFERED, OFFERED_WORDS = lend(BRIDGE)
 # The calls.
 
 
-def check(made: bytes) -> Call:
+def check(layout: Layout, made: bytes) -> Call:
     """The last slot's left is past its right: its place is told once all before it is judged."""
-    place = len(made) - SLOT
+    place = len(made) - layout.slot
     lent, words = lend(made[:place] + struct.pack("<i", 2_560) + made[place + 4 :])
     return Call("check", [*words, len(made)], [place], [lent])
 
@@ -145,23 +161,33 @@ def edit(name: str, made: bytes, last: List[int], slot: int, length: int) -> Cal
     return Call(name, words, [0, 0, slot, length], [lent_map, lent_journal])
 
 
-def calls_on(blocks: int) -> Iterator[Tuple[str, Call]]:
+def refused(name: str, made: bytes, last: List[int]) -> Call:
+    """An edit of a map of OCAD 9 to 11."""
+    return edit(name, made, last, 0, 0)
+
+
+def calls_on(layout: Layout, blocks: int) -> Iterator[Tuple[str, Call]]:
     """Every call on a map of so many index blocks, under a name of its own."""
-    made = made_map(blocks)
+    made = made_map(layout, blocks)
     used, last_slot = len(made), 256 * blocks - 1
-    yield "check", check(made)
+    yield "check", check(layout, made)
     yield "search", search(made, GOOD_WINDOW, 2, blocks)
     yield "search with a window that is refused", search(made, BAD_WINDOW, 0, 0)
-    yield "add", edit("add", made, OFFERED_WORDS, 2, used + len(BRIDGE))
-    yield "remove", edit("remove", made, [last_slot], last_slot, used)
-    yield "reinstate", edit("reinstate", made, [1], 1, used)
+    if layout is OLD:
+        yield "add", edit("add", made, OFFERED_WORDS, 2, used + len(BRIDGE))
+        yield "remove", edit("remove", made, [last_slot], last_slot, used)
+        yield "reinstate", edit("reinstate", made, [1], 1, used)
+    else:
+        yield "add", refused("add", made, OFFERED_WORDS)
+        yield "remove", refused("remove", made, [last_slot])
+        yield "reinstate", refused("reinstate", made, [1])
 
 
 def main(size: int, chosen: Sequence[str]) -> None:
     LIBC.prctl(PR_SET_DUMPABLE, 0)  # no core file where the stack is too small
     stack, calls = Stack(size), ctypes.PyDLL(library.find())
-    for map_name, blocks in MAPS.items():
-        for name, call in calls_on(blocks):
+    for map_name, (layout, blocks) in MAPS.items():
+        for name, call in calls_on(layout, blocks):
             name = f"{name}, {map_name}"
             if not chosen or name in chosen:
                 print(name, end=": ", flush=True)
