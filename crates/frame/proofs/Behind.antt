@@ -161,12 +161,23 @@ module _ {used : ℕ} {m m′ : List ℕ} (s : SameMap used m m′) where
     low-of : 48 ≤ used
     low-of = header-tells m used (accepted .header) .0
 
+    tests : Alike used m m′ (familyOf m)
+    tests = alike s low-of (isWide (versionOf m))
+
     -- its slots stand at the same places, below the length
     pub slot-place-same : (i : ℕ) → i < 256 * n → slotAtOf (familyOf m′) m′ i ≡ slotAtOf (familyOf m) m i
-    slot-place-same i l = rw (version-alike s low-of) (slot-place low-of (alike s low-of (isWide (versionOf m))) (accepted .index) i l)
+    slot-place-same i l = rw (version-alike s low-of) (slot-place low-of tests (accepted .index) i l)
 
     pub slot-place-low : (i : ℕ) → i < 256 * n → slotAtOf (familyOf m) m i + familyOf m .slot ≤ used
-    slot-place-low i l = slot-low low-of (alike s low-of (isWide (versionOf m))) (accepted .index) i l
+    slot-place-low i l = slot-low low-of tests (accepted .index) i l
+
+    -- with their rectangles, the first 16 bytes
+    pub slot-sides-low : (i : ℕ) → i < 256 * n → slotAtOf (familyOf m) m i + 16 ≤ used
+    slot-sides-low i l = omega (arith, slot-place-low i l, tests .sides)
+
+    -- and the same are live
+    pub live-same : (i : ℕ) → i < 256 * n → familyOf m′ .live m′ (slotAtOf (familyOf m′) m′ i) ≡ familyOf m .live m (slotAtOf (familyOf m) m i)
+    live-same i l = rw (slot-place-same i l, version-alike s low-of) (tests .live (slotAtOf (familyOf m) m i) (slot-place-low i l))
 
   -- ---- and one of 6 to 8
 
