@@ -29,7 +29,7 @@ use Rattle.accept.specs.Verdicts.{cellsJudged, headerJudged, verdict, afterInde
 use Rattle.accept.proofs.Firsts.{first-same}
 use Rattle.accept.proofs.Verdicts.{length-tells, header-tells}
 use Rattle.accept.proofs.Accepting.{Holds, HoldsOf, verdict-tells}
-use Rattle.frame.proofs.Same.{SameMap, Alike, number-same, version-alike, header-same, slot-same, alike}
+use Rattle.frame.proofs.Same.{SameMap, Alike, number-same, version-alike, header-read, slot-read, alike}
 
 -- ---- tests that answer alike below n have one first, and cells that stand alike are judged alike
 
@@ -149,7 +149,7 @@ module _ {used : ℕ} {m m′ : List ℕ} (s : SameMap used m m′) where
       go true e =
           let low = length-tells m used e .0 in
           let a = alike s low (isWide (versionOf m)) in
-          rw (version-alike s low, length-alike, header-same s low, index-walk low a, after-alike low a (walked (indexRuleOf (familyOf m) m) m used) refl)
+          rw (version-alike s low, length-alike, header-read s low, index-walk low a, after-alike low a (walked (indexRuleOf (familyOf m) m) m used) refl)
       go false e = rw (length-alike, e)
 
   -- ---- an accepted map, of either layout
@@ -196,7 +196,7 @@ module _ {used : ℕ} {m m′ : List ℕ} (s : SameMap used m m′) where
 
     pub slot-in-same : (i : ℕ) → i < 256 * n → slotIn m′ i ≡ slotIn m i
     unfolding slotIn
-    slot-in-same i l = rw (slot-at-same i l) (slot-same s (slotAt m i) (slot-low (h .low) (alike s (h .low) false) (h .index) i l))
+    slot-in-same i l = rw (slot-at-same i l) (slot-read s (slotAt m i) (slot-low (h .low) (alike s (h .low) false) (h .index) i l))
 
     pub touches-same : (p len : ℕ) → touches m′ n p len ≡ touches m n p len
     touches-same p len = ap (λ (t : ℕ → ℕ → Bool). t p len) (meets-kept (less links n (omega arith)) 6148)

@@ -61,9 +61,9 @@ module _ {used : ℕ} {m m′ : List ℕ} (s : SameMap used m m′) where
   pub version-alike : 48 ≤ used → versionOf m′ ≡ versionOf m
   version-alike low = number-same 2 4 (omega arith)
 
-  pub header-same : 48 ≤ used → headerOf m′ ≡ headerOf m
+  pub header-read : 48 ≤ used → headerOf m′ ≡ headerOf m
   unfolding headerOf
-  header-same low =
+  header-read low =
       rw (
         number-same 2 0 (omega arith),
         number-same 2 2 (omega arith),
@@ -75,12 +75,12 @@ module _ {used : ℕ} {m m′ : List ℕ} (s : SameMap used m m′) where
         number-same 4 28 (omega arith),
       )
 
-  pub slot-same : (p : ℕ) → p + 24 ≤ used → slotOf m′ p ≡ slotOf m p
-  slot-same p l = slot-cong m′ m p p (λ k h. s .same (p + k) (omega arith))
+  pub slot-read : (p : ℕ) → p + 24 ≤ used → slotOf m′ p ≡ slotOf m p
+  slot-read p l = slot-cong m′ m p p (λ k h. s .same (p + k) (omega arith))
 
-  pub wide-slot-same : (p : ℕ) → p + 40 ≤ used → wideSlotOf m′ p ≡ wideSlotOf m p
+  pub wide-slot-read : (p : ℕ) → p + 40 ≤ used → wideSlotOf m′ p ≡ wideSlotOf m p
   unfolding wideSlotOf
-  wide-slot-same p l =
+  wide-slot-read p l =
       rw (
         number-same 4 p (omega arith),
         number-same 4 (p + 4) (omega arith),
@@ -92,11 +92,11 @@ module _ {used : ℕ} {m m′ : List ℕ} (s : SameMap used m m′) where
         s .same (p + 30) (omega arith),
       )
 
-  object-same : (p : ℕ) → p + 32 ≤ used → objectOf (drop p m′) ≡ objectOf (drop p m)
-  object-same p l = sym (object-part m′ p {k = 32} (omega arith)) ∙ ap objectOf (part-same p 32 l) ∙ object-part m p {k = 32} (omega arith)
+  object-read : (p : ℕ) → p + 32 ≤ used → objectOf (drop p m′) ≡ objectOf (drop p m)
+  object-read p l = sym (object-part m′ p {k = 32} (omega arith)) ∙ ap objectOf (part-same p 32 l) ∙ object-part m p {k = 32} (omega arith)
 
-  wide-object-same : (p : ℕ) → p + 40 ≤ used → wideObjectOf (drop p m′) ≡ wideObjectOf (drop p m)
-  wide-object-same p l = sym (wides.object-part m′ p {k = 40} (omega arith)) ∙ ap wideObjectOf (part-same p 40 l) ∙ wides.object-part m p {k = 40} (omega arith)
+  wide-object-read : (p : ℕ) → p + 40 ≤ used → wideObjectOf (drop p m′) ≡ wideObjectOf (drop p m)
+  wide-object-read p l = sym (wides.object-part m′ p {k = 40} (omega arith)) ∙ ap wideObjectOf (part-same p 40 l) ∙ wides.object-part m p {k = 40} (omega arith)
 
   -- ---- whether a symbol entry is at fault
 
@@ -132,7 +132,7 @@ module _ {used : ℕ} {m m′ : List ℕ} (s : SameMap used m m′) where
     where
       go : (b : Bool) → inside used (bytesIn v (t .len)) (t .position) ≡ b → objectGood touch m′ used v t ≡ objectGood touch m used v t
       go true e =
-          rw (object-same (t .position) (omega (arith, bytes-least v (t .len) g, within-true 48 used (bytesIn v (t .len)) (t .position) e .1)))
+          rw (object-read (t .position) (omega (arith, bytes-least v (t .len) g, within-true 48 used (bytesIn v (t .len)) (t .position) e .1)))
       go false e = rw e
 
   good-alike : (touch : ℕ → ℕ → Bool) (v : ℕ) (t : Slot) → slotGood touch m′ used v t ≡ slotGood touch m used v t
@@ -145,7 +145,7 @@ module _ {used : ℕ} {m m′ : List ℕ} (s : SameMap used m m′) where
 
   slot-alike : (touch : ℕ → ℕ → Bool) (v p : ℕ) → p + 24 ≤ used → badSlot touch m′ used v p ≡ badSlot touch m used v p
   unfolding badSlot
-  slot-alike touch v p l = rw (slot-same p l, good-alike touch v (slotOf m p))
+  slot-alike touch v p l = rw (slot-read p l, good-alike touch v (slotOf m p))
 
   -- ---- and one of 9 to 11: a live slot's object has 40 bytes at least, so where they do not lie inside it is at fault whatever stands there
 
@@ -153,12 +153,12 @@ module _ {used : ℕ} {m m′ : List ℕ} (s : SameMap used m m′) where
   wide-object-alike touch t ne =
       ⊎-elim
       (λ l. wides.fits-short touch used t (wideObjectOf (drop (t .position) m′)) ne l ∙ sym (wides.fits-short touch used t (wideObjectOf (drop (t .position) m)) ne l))
-      (λ l. rw (wide-object-same (t .position) l))
+      (λ l. rw (wide-object-read (t .position) l))
       (lt-or-ge used (t .position + 40))
 
   wide-slot-alike : (touch : ℕ → ℕ → Bool) (p : ℕ) → p + 40 ≤ used → wideBadSlot touch m′ used p ≡ wideBadSlot touch m used p
   unfolding wideBadSlot wideSlotGood
-  wide-slot-alike touch p l = rw (wide-slot-same p l) (go (wideLive (wideSlotOf m p)) refl)
+  wide-slot-alike touch p l = rw (wide-slot-read p l) (go (wideLive (wideSlotOf m p)) refl)
     where
       go : (b : Bool) → wideLive (wideSlotOf m p) ≡ b
           → wideLive (wideSlotOf m p) && not (wideSlotGood touch m′ used (wideSlotOf m p)) ≡ wideLive (wideSlotOf m p) && not (wideSlotGood touch m used (wideSlotOf m p))
@@ -174,7 +174,7 @@ module _ {used : ℕ} {m m′ : List ℕ} (s : SameMap used m m′) where
             rw (number-same 4 16 (omega arith), number-same 4 20 (omega arith), number-same 4 24 (omega arith), number-same 4 28 (omega arith));
         entry = entry-alike;
         slot = λ touch p l. rw (version-alike low) (slot-alike touch (versionOf m) p l);
-        live = λ p l. ap (λ (t : Slot). sameState Live (stateOf t)) (slot-same p l);
+        live = λ p l. ap (λ (t : Slot). sameState Live (stateOf t)) (slot-read p l);
         fits = omega arith;
         sides = omega arith;
       }
@@ -185,7 +185,7 @@ module _ {used : ℕ} {m m′ : List ℕ} (s : SameMap used m m′) where
         taboo = λ p. refl;
         entry = wide-entry-alike;
         slot = wide-slot-alike;
-        live = λ p l. ap wideLive (wide-slot-same p l);
+        live = λ p l. ap wideLive (wide-slot-read p l);
         fits = omega arith;
         sides = omega arith;
       }
