@@ -16,17 +16,21 @@ use Rattle.slots.specs.declared.Slot.{Slot}
 use Rattle.slots.specs.declared.State.the-variants.{Erased, Live}
 use Rattle.slots.specs.Slots.{stateOf, sameState, bytesIn}
 use Rattle.records.specs.Sizes.{mapLimit}
+use Rattle.records.specs.Headers.{isWide}
 use Rattle.records.specs.Journals.{recordFor}
 use Rattle.windows.specs.declared.Window.{Window}
-use Rattle.windows.specs.Windows.{meetsWindow}
+use Rattle.windows.specs.Windows.{rectangleAt}
 use Rattle.chain.specs.Chains.{inside}
-use Rattle.judge.specs.Rules.{slotAt}
+use Rattle.judge.specs.Rules.{familyFor, familyOf, slotAt, slotAtOf}
 use Rattle.judge.specs.Judging.{versionOf}
 use Rattle.judge.proofs.Judging.{bytes-least}
 use Rattle.accept.specs.Slots.{slotIn, freeSlot}
-use Rattle.accept.proofs.Accepting.{Holds, accepted-tells, accepted-is}
-use Rattle.frame.proofs.Behind.{SameMap, verdict-same, part-same, version-alike, slot-in-same, free-same}
-use Rattle.find.specs.Searches.{wantedAt, slotsFor, found}
+use Rattle.accept.specs.declared.Verdict.the-variants.{Accepted}
+use Rattle.accept.specs.Verdicts.{verdict}
+use Rattle.accept.proofs.Accepting.{Holds, editable-is}
+use Rattle.frame.proofs.Same.{SameMap, number-same, part-same, version-alike, slot-same, wide-slot-same}
+use Rattle.frame.proofs.Behind.{verdict-same, slot-place-same, slot-place-low, slot-in-same, free-same}
+use Rattle.look.specs.Found.{liveAt, slotsFor, found}
 use Rattle.journal.specs.declared.JournalLook.{JournalLook}
 use Rattle.journal.specs.declared.JournalLook.the-variants.{Malformed, Held, New}
 use Rattle.journal.specs.Journals.{recordIn, holder, looked, isFull, appended}
@@ -35,16 +39,16 @@ use Rattle.edit.specs.declared.EditAnswer.{EditAnswer}
 use Rattle.edit.specs.declared.EditAnswer.the-variants.{Done, Before, Refused}
 use Rattle.edit.specs.Edits as edits
 use Rattle.edit.specs.Edits.{saying, after, afterLook, startOf}
+use Rattle.edit.proofs.Edits.{start-look}
 use Rattle.change.specs.Slots.{hasState, withSym, objectSym, canReinstate, allowedFor, symFor}
 use Rattle.change.proofs.Syms.{has-tells}
 use Rattle.change.specs.Changes.{repeatChange, freshChange, changed}
 use Rattle.add.specs.Objects.{offeredGood, isObject}
 use Rattle.add.specs.Adds.{newLength, addedMap, repeatAdd, freshAdd, added}
 use Rattle.promise.specs.Runs.{add, search, edited, lengthAfter, grown}
-use Rattle.promise.proofs.Steps.{start-of}
 use Rattle.promise.proofs.Moves.{use-tells}
 use Rattle.promise.proofs.Contents.{can-exists, can-parts, can-good}
-use Rattle.promise.proofs.Whole.{one-test, same-of, sym-whole, added-whole, object-sym-same, has-same, looked-same}
+use Rattle.promise.proofs.Whole.{one-test, same-of, accepted-version, holds-same, sym-whole, added-whole, object-sym-same, has-same, looked-same}
 
 sel-alike : {p q : ℕ → Bool} (k : ℕ) → ((i : ℕ) → i < k → q i ≡ p i) → sel q k ≡ sel p k
 unfolding sel
@@ -79,12 +83,9 @@ module _ {m m′ : List ℕ} {used : ℕ} (s : SameMap used m m′) where
   -- ---- an accepted map
 
   module _ {n : ℕ} (h : Holds m used n) where
-    h′ : Holds m′ used n
-    h′ = accepted-tells m′ used n (verdict-same s ∙ accepted-is h)
-
     -- a Sym is written
     sym-same : (d : ℕ) → d < 256 * n → (y : ℕ) → take used (withSym m′ d y) ≡ take used (withSym m d y)
-    sym-same d l y = sym-whole h′ d l y ∙ ap (λ (x : List ℕ). withSym x d y) (first-same used (omega arith)) ∙ sym (sym-whole h d l y)
+    sym-same d l y = sym-whole (holds-same s h) d l y ∙ ap (λ (x : List ℕ). withSym x d y) (first-same used (omega arith)) ∙ sym (sym-whole h d l y)
 
     can-sym : Bytes m → (d : ℕ) → canReinstate m used n d ≡ true → objectSym m′ d ≡ objectSym m d
     can-sym bytes d can =
@@ -104,7 +105,7 @@ module _ {m m′ : List ℕ} {used n : ℕ} (s : SameMap used m m′) (h : Holds
   -- ---- a removal or a reinstatement
 
   can-same : Bytes m → Bytes m′ → (d : ℕ) → canReinstate m′ used n d ≡ canReinstate m used n d
-  can-same b b′ d = one-test (canReinstate m used n d) (canReinstate m′ used n d) (can-kept s h b d) (can-kept (back s) (h′ s h) b′ d)
+  can-same b b′ d = one-test (canReinstate m used n d) (canReinstate m′ used n d) (can-kept s h b d) (can-kept (back s) (holds-same s h) b′ d)
 
   allowed-same : Bytes m → Bytes m′ → (kind d : ℕ) → allowedFor kind m′ used n d ≡ allowedFor kind m used n d
   allowed-same b b′ kind d = rw (has-same s h Live d, can-same b b′ d)
@@ -191,7 +192,7 @@ module _ {m m′ : List ℕ} {used n : ℕ} (s : SameMap used m m′) (h : Holds
   done-add j e o l l′ =
       record {
         answer = refl;
-        map = rw (← length-same o) (added-whole (h′ s h) o (rw (length-same o) l′)) ∙ ap (λ (x : List ℕ). grown x n o) (first-same s used (omega arith)) ∙ sym (added-whole h o l);
+        map = rw (← length-same o) (added-whole (holds-same s h) o (rw (length-same o) l′)) ∙ ap (λ (x : List ℕ). grown x n o) (first-same s used (omega arith)) ∙ sym (added-whole h o l);
         journal = refl;
       }
 
@@ -218,11 +219,11 @@ module _ {m m′ : List ℕ} {used n : ℕ} (s : SameMap used m m′) (h : Holds
   -- ---- the edits
 
   starts-same : (j : List ℕ) (e : ℕ) → startOf m′ used j e ≡ afterLook m′ n (looked j m n e)
-  starts-same j e = start-of m′ used j e n (accepted-is (h′ s h)) ∙ ap (afterLook m′ n) (looked-same s h j e)
+  starts-same j e = start-look m′ used j e (editable-is (holds-same s h)) (looked-same s h j e)
 
   pub change-agree : Bytes m → Bytes m′ → (j : List ℕ) (e kind d : ℕ) → Agree used (changed m used j e kind d) (changed m′ used j e kind d)
   unfolding changed
-  change-agree b b′ j e kind d = rw (start-of m used j e n (accepted-is h), starts-same j e) (go (looked j m n e))
+  change-agree b b′ j e kind d = rw (start-look m used j e (editable-is h) refl, starts-same j e) (go (looked j m n e))
     where
       then : List ℕ → JournalLook → edits.Outcome
       then x l = after x j (λ n k t. repeatChange x used j kind d k t) (λ n. freshChange x used j e kind d (allowedFor kind x used n d) (symFor kind x d)) (afterLook x n l)
@@ -235,7 +236,7 @@ module _ {m m′ : List ℕ} {used n : ℕ} (s : SameMap used m m′) (h : Holds
   pub add-agree : (j : List ℕ) (e : ℕ) (o : List ℕ)
       → Agree used (added m used j e o) (added m′ used j e o) ⊎ ((added m used j e o .answer ≡ Refused 11 0) ⊎ (added m′ used j e o .answer ≡ Refused 11 0))
   unfolding added
-  add-agree j e o = rw (start-of m used j e n (accepted-is h), starts-same j e) (go (looked j m n e) refl)
+  add-agree j e o = rw (start-look m used j e (editable-is h) refl, starts-same j e) (go (looked j m n e) refl)
     where
       then : List ℕ → JournalLook → edits.Outcome
       then x l = after x j (λ n k t. repeatAdd x used j o k t) (λ n. freshAdd x used j e o n) (afterLook x n l)
@@ -246,10 +247,22 @@ module _ {m m′ : List ℕ} {used n : ℕ} (s : SameMap used m m′) (h : Holds
       go (Held k t) q = inl (repeat-add j o k t (held-exists j e k t q))
       go (New k) q = fresh-add j e o
 
-  -- ---- the search
+-- ---- the search, of an accepted map of either layout
 
-  pub found-same : (w : Window) → found m′ n w ≡ found m n w
-  unfolding slotsFor wantedAt slotIn
-  found-same w =
+module _ {m m′ : List ℕ} {used : ℕ} (s : SameMap used m m′) where
+  rectangle-same : (p : ℕ) → p + 16 ≤ used → rectangleAt m′ p ≡ rectangleAt m p
+  rectangle-same p l =
+      rw (number-same s 4 p (omega arith), number-same s 4 (p + 4) (omega arith), number-same s 4 (p + 8) (omega arith), number-same s 4 (p + 12) (omega arith))
+
+  live-alike : (b : Bool) (w : Window) (p : ℕ) → p + familyFor b .slot ≤ used → liveAt (familyFor b) m′ w p ≡ liveAt (familyFor b) m w p
+  unfolding liveAt
+  live-alike true w p l = rw (wide-slot-same s p l, rectangle-same p (omega arith))
+  live-alike false w p l = rw (slot-same s p l, rectangle-same p (omega arith))
+
+  pub found-same : {n : ℕ} → verdict m used ≡ Accepted n → (w : Window) → found m′ n w ≡ found m n w
+  unfolding slotsFor
+  found-same {n} e w =
       sel-alike (256 * n)
-      (λ d l. ap (λ (t : Slot). sameState Live (stateOf t) && meetsWindow t w) (slot-in-same s h d l))
+      (λ d l.
+      rw (slot-place-same s e d l, accepted-version s e)
+      (live-alike (isWide (versionOf m)) w (slotAtOf (familyOf m) m d) (slot-place-low s e d l)))

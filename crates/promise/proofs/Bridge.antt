@@ -10,14 +10,12 @@ use Rattle.records.specs.Journals.{recordFor}
 use Rattle.journal.proofs.Records.{shape-tells}
 use Rattle.promise.specs.Runs.{State, Call, add, remove, reinstate, search, edited, step, Event, made, handed, withBuffer, run, recordDue, isLiveIn, Good, Sent, HoldsMap, Fair}
 use Rattle.promise.specs.Promises.{Removes, NoneRemoves, Footbridge}
-use Rattle.promise.proofs.Whole.{has-same}
+use Rattle.promise.proofs.Whole.{holds-same, has-same}
 use Rattle.promise.proofs.Keeping.{Did, Idle, holds-of, call-cases, step-good, handed-same, turn-good}
 use Rattle.promise.proofs.Promises.{stays-good, never-acts-again, Keeps, keeps-step, keeps-run}
 use Rattle.promise.proofs.ByEdit.{live-in, own-of, others-live}
 use Rattle.promise.proofs.Dormant.{dormant-start, dormant-turn, dormant-run, dormant-content}
 use Rattle.promise.proofs.Repeats.{did-of, did-keeps, repeated}
-use Rattle.accept.proofs.Accepting.{accepted-tells}
-use Rattle.frame.proofs.Behind.{verdict-same}
 
 -- a slot that no call removes stays live
 live-step : {st : State} (g : Good st) (c : Call) → Sent c → (s : ℕ) → (Removes s (made c) → ⊥) → isLiveIn st s ≡ true → isLiveIn (step st c) s ≡ true
@@ -40,7 +38,7 @@ live-step {st} g c a s keep l =
 live-handed : {st : State} (g : Good st) (b : List ℕ) → HoldsMap st b → (s : ℕ) → isLiveIn (withBuffer st b) s ≡ isLiveIn st s
 live-handed {st} g b holds s =
     let same = handed-same g holds in
-    live-in (withBuffer st b) (accepted-tells b (st .used) (g .blocks) (verdict-same same ∙ g .accepted)) s
+    live-in (withBuffer st b) (holds-same same (holds-of g)) s
     ∙ has-same same (holds-of g) Live s ∙ sym (live-in st (holds-of g) s)
 
 live-run : {st : State} (g : Good st) (xs : List Event) → Fair st xs → (s : ℕ) → NoneRemoves s xs → isLiveIn st s ≡ true → isLiveIn (run st xs) s ≡ true

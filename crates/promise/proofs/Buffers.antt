@@ -12,13 +12,15 @@ use Rattle.windows.specs.declared.Window.{Window}
 use Rattle.windows.specs.Windows.{windowGood}
 use Rattle.accept.specs.declared.Verdict.{Verdict}
 use Rattle.accept.specs.declared.Verdict.the-variants as verdicts
-use Rattle.accept.specs.Verdicts.{verdict}
+use Rattle.accept.specs.Verdicts.{verdict, Editable}
 use Rattle.accept.proofs.Accepting.{accepted-tells}
-use Rattle.frame.proofs.Behind.{SameMap, verdict-same}
+use Rattle.frame.proofs.Same.{SameMap}
+use Rattle.frame.proofs.Behind.{verdict-same}
 use Rattle.find.specs.declared.SearchAnswer.{SearchAnswer}
 use Rattle.find.specs.declared.SearchAnswer.the-variants as answers
 use Rattle.find.specs.declared.SearchAnswer.the-variants.{Found, Short}
-use Rattle.find.specs.Searches.{found, answerFor, answerOf, listFor, listAfter}
+use Rattle.look.specs.Found.{found}
+use Rattle.find.specs.Searches.{answerFor, answerOf, listFor, listAfter}
 use Rattle.find.proofs.Searches.{found-tells}
 use Rattle.edit.specs.declared.EditAnswer.{EditAnswer}
 use Rattle.edit.specs.declared.EditAnswer.the-variants.{Refused}
@@ -27,30 +29,41 @@ use Rattle.change.specs.Changes.{changed}
 use Rattle.add.specs.Adds.{added}
 use Rattle.promise.specs.Runs.{State, Call, add, remove, reinstate, search, edited, searched, outcome, ofEdit, lengthAfter, next, step, withBuffer}
 use Rattle.promise.specs.Buffers.{Alike, TooShort, BytesBehind}
-use Rattle.promise.proofs.Steps.{any-start}
-use Rattle.promise.proofs.Whole.{same-of}
+use Rattle.promise.proofs.Steps.{Barred, barred-or-editable}
+use Rattle.promise.proofs.Whole.{same-of, accepted-version}
 use Rattle.promise.proofs.Agreeing.{Agree, first-same, refused-agree, change-agree, add-agree, found-same}
 
 -- ---- in any map at all
 
 module _ {m m′ : List ℕ} {used : ℕ} (s : SameMap used m m′) where
-  change-any : Bytes m → Bytes m′ → (j : List ℕ) (e kind d : ℕ) (v : Verdict) → verdict m used ≡ v → Agree used (changed m used j e kind d) (changed m′ used j e kind d)
-  change-any b b′ j e kind d (verdicts.Accepted n) q = change-agree s (accepted-tells m used n q) b b′ j e kind d
-  change-any b b′ j e kind d (verdicts.Refused k p) q =
-      unfold changed in rw (any-start m used j e k p q, any-start m′ used j e k p (verdict-same s ∙ q)) (refused-agree s j k p)
+  -- both buffers bar every edit alike, or the map is accepted and of 6 to 8
+  abbrev BothBarred : Type 0
+  BothBarred = (k : ℕ) × (p : ℕ) × Barred m used k p × Barred m′ used k p
 
-  add-any : (j : List ℕ) (e : ℕ) (o : List ℕ) (v : Verdict) → verdict m used ≡ v
+  both : BothBarred ⊎ ((n : ℕ) × Editable m used n)
+  both = barred-or-editable m m′ used (verdict-same s) (λ n q. accepted-version s q)
+
+  change-any : Bytes m → Bytes m′ → (j : List ℕ) (e kind d : ℕ) → Agree used (changed m used j e kind d) (changed m′ used j e kind d)
+  change-any b b′ j e kind d =
+      ⊎-elim
+      (λ (r : BothBarred). unfold changed in rw (r .2 j e, r .3 j e) (refused-agree s j (r .0) (r .1)))
+      (λ r. change-agree s (accepted-tells m used (r .0) (r .1)) b b′ j e kind d)
+      both
+
+  add-any : (j : List ℕ) (e : ℕ) (o : List ℕ)
       → Agree used (added m used j e o) (added m′ used j e o) ⊎ ((added m used j e o .answer ≡ Refused 11 0) ⊎ (added m′ used j e o .answer ≡ Refused 11 0))
-  add-any j e o (verdicts.Accepted n) q = add-agree s (accepted-tells m used n q) j e o
-  add-any j e o (verdicts.Refused k p) q =
-      inl (unfold added in rw (any-start m used j e k p q, any-start m′ used j e k p (verdict-same s ∙ q)) (refused-agree s j k p))
+  add-any j e o =
+      ⊎-elim
+      (λ (r : BothBarred). inl (unfold added in rw (r .2 j e, r .3 j e) (refused-agree s j (r .0) (r .1))))
+      (λ r. add-agree s (accepted-tells m used (r .0) (r .1)) j e o)
+      both
 
   answer-any : (w : Window) (room : ℕ) → answerOf m′ used w room ≡ answerOf m used w room
   unfolding answerOf
   answer-any w room = rw (verdict-same s) (go (verdict m used) refl)
     where
       go : (v : Verdict) → verdict m used ≡ v → answerFor v (λ n. found m′ n w) (windowGood w) room ≡ answerFor v (λ n. found m n w) (windowGood w) room
-      go (verdicts.Accepted n) q = unfold answerFor in rw (found-same s (accepted-tells m used n q) w)
+      go (verdicts.Accepted n) q = unfold answerFor in rw (found-same s q w)
       go (verdicts.Refused k p) q = unfold answerFor in refl
 
   list-any : (w : Window) (l : List ℕ) → listAfter m′ used w l ≡ listAfter m used w l
@@ -58,7 +71,7 @@ module _ {m m′ : List ℕ} {used : ℕ} (s : SameMap used m m′) where
   list-any w l = rw (answer-any w (length l)) (go (answerOf m used w (length l)) refl)
     where
       go : (a : SearchAnswer) → answerOf m used w (length l) ≡ a → listFor a (λ n. found m′ n w) l ≡ listFor a (λ n. found m n w) l
-      go (Found c b) q = ap (sets l 0) (found-same s (accepted-tells m used b (found-tells m used w (length l) q .accepted)) w)
+      go (Found c b) q = ap (sets l 0) (found-same s (found-tells m used w (length l) q .accepted) w)
       go (Short c) q = refl
       go (answers.Refused k p) q = refl
 
@@ -79,9 +92,9 @@ module _ (st : State) (b : List ℕ) (x : Bytes (st .map)) (y : Bytes b) (s : Sa
       ⊎-elim
       (λ (a : Agree (st .used) (added (st .map) (st .used) (st .journal) e o) (added b (st .used) (st .journal) e o)). inl (ap edited (a .answer), alike-of a))
       (λ t. inr (⊎-elim (λ q. inl (ap edited q)) (λ q. inr (ap edited q)) t))
-      (add-any s (st .journal) e o (verdict (st .map) (st .used)) refl)
-  same-call (remove e d) = let a = change-any s x y (st .journal) e 2 d (verdict (st .map) (st .used)) refl in inl (ap edited (a .answer), alike-of a)
-  same-call (reinstate e d) = let a = change-any s x y (st .journal) e 3 d (verdict (st .map) (st .used)) refl in inl (ap edited (a .answer), alike-of a)
+      (add-any s (st .journal) e o)
+  same-call (remove e d) = let a = change-any s x y (st .journal) e 2 d in inl (ap edited (a .answer), alike-of a)
+  same-call (reinstate e d) = let a = change-any s x y (st .journal) e 3 d in inl (ap edited (a .answer), alike-of a)
   same-call (search w l) = inl (ap₂ searched (answer-any s w (length l)) (list-any s w l), record { used = refl; map = first-same s (st .used) (omega arith); journal = refl })
 
 -- two alike states are one state with another buffer; and where the buffer is shorter than the length, the buffer is the same

@@ -11,9 +11,10 @@ use Rattle.numbers.specs.Bytes.{Bytes}
 use Rattle.windows.specs.declared.Window.{Window}
 use Rattle.records.specs.Journals.{recordFor, shapeGood}
 use Rattle.records.proofs.Journals.{RecordFits}
-use Rattle.accept.proofs.Accepting.{Holds, accepted-tells, accepted-is}
+use Rattle.accept.proofs.Accepting.{Holds, accepted-tells, accepted-is, holds-narrow}
 use Rattle.frame.proofs.Writes.{pass-of}
-use Rattle.frame.proofs.Behind.{SameMap, verdict-same}
+use Rattle.frame.proofs.Same.{SameMap}
+use Rattle.frame.proofs.Behind.{verdict-same}
 use Rattle.chain.proofs.Chains.{few}
 use Rattle.journal.specs.Journals.{wellFormed, isHeld, isFull, appended, slotUsed}
 use Rattle.journal.proofs.Journals.{appended-well}
@@ -22,6 +23,7 @@ use Rattle.edit.specs.declared.EditAnswer.{EditAnswer}
 use Rattle.edit.specs.declared.EditAnswer.the-variants.{Done}
 use Rattle.slots.specs.declared.State.the-variants.{Live}
 use Rattle.judge.specs.Judging.{versionOf}
+use Rattle.accept.specs.Verdicts.{Editable}
 use Rattle.accept.specs.Slots.{slotIn, freeSlot}
 use Rattle.change.specs.Slots.{hasState, resym, withSym, objectSym, canReinstate, allowedFor, symFor}
 use Rattle.add.specs.Objects.{offeredGood}
@@ -32,7 +34,7 @@ use Rattle.add.specs.Adds.{added, newLength, slotAdded}
 use Rattle.promise.specs.Runs.{State, Call, add, remove, reinstate, search, edited, CallOutcome, outcome, ofEdit, lengthAfter, next, step, saysDone, isDone, recordDue, mapOf, grown, Event, made, handed, withBuffer, turn, applied, Good, Sent, HoldsMap, May}
 use Rattle.promise.proofs.Bytes.{appended-bytes, sym-bytes, added-bytes}
 use Rattle.promise.proofs.Contents.{can-exists}
-use Rattle.promise.proofs.Whole.{same-of, whole, sym-whole, added-whole, revived-whole, well-same}
+use Rattle.promise.proofs.Whole.{same-of, whole, holds-same, sym-whole, added-whole, revived-whole, well-same}
 use Rattle.promise.proofs.Steps.{Still, DoneChange, DoneAdd, change-cases, add-cases}
 use Rattle.promise.proofs.Moves.{Moved, moved-use, moved-here, object-sym-fits, changed-slot, remove-moved, reinstate-moved, blocksAfter, added-grown, free-before, added-moved}
 
@@ -89,8 +91,12 @@ pub idle-search : (st : State) (w : Window) (l : List ℕ) → Idle st (search w
 unfolding step isDone
 idle-search st w l = record { same = refl; idle = refl }
 
+-- its map takes edits
+editable-of : {st : State} (g : Good st) → Editable (st .map) (st .used) (g .blocks)
+editable-of g = (g .accepted, g .narrow)
+
 pub holds-of : {st : State} (g : Good st) → Holds (st .map) (st .used) (g .blocks)
-holds-of {st} g = accepted-tells (st .map) (st .used) (g .blocks) (g .accepted)
+holds-of {st} g = accepted-tells (st .map) (st .used) (g .blocks) (editable-of g)
 
 module _ {st : State} (g : Good st) where
   h : Holds (st .map) (st .used) (g .blocks)
@@ -132,7 +138,7 @@ module _ {st : State} (g : Good st) where
         ⊎-elim
         (λ x. inl (idle-of st c is x))
         (λ d. inr (did-change d))
-        (change-cases (st .map) (st .used) (st .journal) e kind s (g .blocks) (g .accepted))
+        (change-cases (st .map) (st .used) (st .journal) e kind s (g .blocks) (editable-of g))
 
   -- an add
   module _ (e : ℕ) (o : List ℕ) (fits : e < 2 ^ 32) (bytes : Bytes o) where
@@ -165,7 +171,7 @@ module _ {st : State} (g : Good st) where
         }
 
     add-step : Idle st (add e o) ⊎ Did st (add e o) (g .blocks)
-    add-step = ⊎-elim (λ x. inl (idle-of st (add e o) refl x)) (λ d. inr (did-add d)) (add-cases (st .map) (st .used) (st .journal) e o (g .blocks) (g .accepted))
+    add-step = ⊎-elim (λ x. inl (idle-of st (add e o) refl x)) (λ d. inr (did-add d)) (add-cases (st .map) (st .used) (st .journal) e o (g .blocks) (editable-of g))
 
   -- every call: it is not done and changes nothing, or it is done
   pub call-cases : (c : Call) → Sent c → Idle st c ⊎ Did st c (g .blocks)
@@ -180,6 +186,7 @@ did-good {st} {c} {n} g d =
     record {
       blocks = d .blocks;
       accepted = accepted-is (d .moved .holds);
+      narrow = holds-narrow (d .moved .holds);
       well = rw (d .journal) (appended-well (st .journal) (st .map) (step st c .map) n (d .blocks) (recordDue c (d .slot)) (d .well) (d .room) (d .fresh) (d .fits) (d .shape) (moved-use (d .moved)) (here d));
       map-bytes = d .bytes;
       journal-bytes = rw (d .journal) (appended-bytes (st .journal) (recordDue c (d .slot)) (g .journal-bytes));
@@ -202,6 +209,7 @@ module _ {st : State} (g : Good st) {b : List ℕ} (holds : HoldsMap st b) where
       record {
         blocks = g .blocks;
         accepted = verdict-same handed-same ∙ g .accepted;
+        narrow = holds-narrow (holds-same handed-same (holds-of g));
         well = well-same handed-same (holds-of g) (st .journal) ∙ g .well;
         map-bytes = bytes;
         journal-bytes = g .journal-bytes;

@@ -11,6 +11,7 @@
 --     Repeats      the exact repeat of a done edit
 --     Bridge       the footbridge
 --     Finding      what a search finds
+--     Untouched    maps of 9 to 11 stay as they are
 --     Agreeing     one accepted map in two buffers
 --     Buffers      what the buffer has behind the map decides nothing but 11
 --     Zeros        no refusal has number 0
@@ -30,6 +31,7 @@ pub mod Dormant
 pub mod Repeats
 pub mod Bridge
 pub mod Finding
+pub mod Untouched
 pub mod Agreeing
 pub mod Buffers
 pub mod Zeros

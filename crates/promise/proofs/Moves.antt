@@ -22,9 +22,9 @@ use Rattle.accept.specs.declared.Verdict.the-variants as verdicts
 use Rattle.judge.specs.Rules.{slotAt}
 use Rattle.judge.specs.Judging.{versionOf}
 use Rattle.accept.specs.Verdicts.{verdict}
-use Rattle.accept.proofs.Accepting.{Holds, accepted-tells, blocks-one}
+use Rattle.accept.proofs.Accepting.{Holds, accepted-tells, holds-narrow, blocks-one}
 use Rattle.judge.proofs.Telling.{and-true}
-use Rattle.frame.proofs.Frame.{Change}
+use Rattle.frame.proofs.Frame.{Change, version-same}
 use Rattle.journal.specs.Journals.{slotUsed}
 use Rattle.journal.proofs.Journals.{KeepsUse}
 use Rattle.accept.specs.Slots.{slotIn, freeSlot}
@@ -107,7 +107,7 @@ module _ {m : List ℕ} {used n : ℕ} (h : Holds m used n) (bytes : Bytes m) (s
   accepted-holds : (l : s < 256 * n) (y : ℕ) (v : Verdict) → verdict (withSym m s y) used ≡ v → isAccepted v ≡ true → Holds (withSym m s y) used n
   accepted-holds l y (verdicts.Refused k p) q e = absurd (never (sym e))
   accepted-holds l y (verdicts.Accepted k) q e =
-      let g = accepted-tells (withSym m s y) used k q in
+      let g = accepted-tells (withSym m s y) used k (q, rw (version-same (sym-change h s l y)) (holds-narrow h)) in
       rw (blocks-one (sym (g .index) ∙ sym-change h s l y .index)) at g
 
   pub reinstate-moved : canReinstate m used n s ≡ true → Moved m (withSym m s (objectSym m s)) used used n n s

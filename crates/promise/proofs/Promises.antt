@@ -12,7 +12,6 @@ use Rattle.records.specs.Headers.{indexHead}
 use Rattle.chain.specs.Chains.{block}
 use Rattle.chain.proofs.Chains.{disjoint, few, walked-end}
 use Rattle.judge.specs.Rules.{indexRule}
-use Rattle.accept.specs.Verdicts.{verdict}
 use Rattle.accept.proofs.Accepting.{accepted-is}
 use Rattle.frame.proofs.Writes.{pass-of}
 use Rattle.frame.proofs.Behind.{verdict-same, block-same}
@@ -131,9 +130,9 @@ rest-zero st xs g a b l h =
 
 not-done : (st : State) (c : Call) → isDone st c ≡ false → step st c ≡ st
 unfolding isDone
-not-done st (add e o) i = idle-of st (add e o) refl (add-idle (st .map) (st .used) (st .journal) e o (verdict (st .map) (st .used)) refl i) .same
-not-done st (remove e s) i = idle-of st (remove e s) refl (change-idle (st .map) (st .used) (st .journal) e 2 s (verdict (st .map) (st .used)) refl i) .same
-not-done st (reinstate e s) i = idle-of st (reinstate e s) refl (change-idle (st .map) (st .used) (st .journal) e 3 s (verdict (st .map) (st .used)) refl i) .same
+not-done st (add e o) i = idle-of st (add e o) refl (add-idle (st .map) (st .used) (st .journal) e o i) .same
+not-done st (remove e s) i = idle-of st (remove e s) refl (change-idle (st .map) (st .used) (st .journal) e 2 s i) .same
+not-done st (reinstate e s) i = idle-of st (reinstate e s) refl (change-idle (st .map) (st .used) (st .journal) e 3 s i) .same
 not-done st (search w l) i = idle-search st w l .same
 
 pub nothing-else : NothingElse

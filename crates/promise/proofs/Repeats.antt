@@ -49,13 +49,13 @@ did-keeps {st} g c d =
 pub repeated : {st : State} (g : Good st) (e kind s : ℕ) → Keeps (st .journal) e (recordFor e kind s) → (e ≡ 0 → ⊥)
     → changed (st .map) (st .used) (st .journal) e kind s .answer ≡ Before s (st .used)
 unfolding changed startOf looked repeatChange
-repeated {st} g e kind s k ne = rw (g .accepted, ne-eqb e 0 ne, g .well, k .held, k .is, eq-eqb kind kind refl, eq-eqb s s refl)
+repeated {st} g e kind s k ne = rw (g .accepted, g .narrow, ne-eqb e 0 ne, g .well, k .held, k .is, eq-eqb kind kind refl, eq-eqb s s refl)
 
 -- an add, where the slot's object equals the offered bytes
 repeated-add : {st : State} (g : Good st) (e s : ℕ) (o : List ℕ) → Keeps (st .journal) e (recordFor e 1 s) → (e ≡ 0 → ⊥)
     → isObject (st .map) (st .used) (slotIn (st .map) s) o ≡ true → added (st .map) (st .used) (st .journal) e o .answer ≡ Before s (st .used)
 unfolding added startOf looked repeatAdd
-repeated-add {st} g e s o k ne same = rw (g .accepted, ne-eqb e 0 ne, g .well, k .held, k .is, same)
+repeated-add {st} g e s o k ne same = rw (g .accepted, g .narrow, ne-eqb e 0 ne, g .well, k .held, k .is, same)
 
 same-self : (o : List ℕ) → sameBytes o o ≡ true
 unfolding sameBytes

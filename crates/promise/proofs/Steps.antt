@@ -7,11 +7,12 @@ use mathlib.Core.List.{List}
 use lib.Dec.{eqb, leb}
 use lib.ListN.{length}
 use Rattle.numbers.proofs.Below.{never}
+use Rattle.records.specs.Headers.{isWide}
 use Rattle.records.specs.Journals.{recordFor}
 use Rattle.accept.specs.declared.Verdict.{Verdict}
 use Rattle.accept.specs.declared.Verdict.the-variants as verdicts
 use Rattle.judge.specs.Judging.{versionOf}
-use Rattle.accept.specs.Verdicts.{verdict}
+use Rattle.accept.specs.Verdicts.{verdict, Editable}
 use Rattle.judge.proofs.Telling.{and-true}
 use borrow.Author.Tests.{leb-true, le-leb, ne-eqb}
 use Rattle.journal.specs.declared.JournalLook.{JournalLook}
@@ -25,6 +26,7 @@ use Rattle.accept.specs.Slots.{slotIn, freeSlot}
 use Rattle.change.specs.Slots.{withSym, allowedFor, symFor}
 use Rattle.add.specs.Objects.{offeredGood, isObject}
 use Rattle.edit.specs.Edits.{Outcome, saying, after, afterLook, startOf}
+use Rattle.edit.proofs.Edits.{start-refused, start-wide, start-look}
 use Rattle.change.specs.Changes.{repeatChange, freshChange, changed}
 use Rattle.add.specs.Adds.{newLength, addedMap, repeatAdd, freshAdd, added}
 use Rattle.promise.specs.Runs.{edited, saysDone}
@@ -40,11 +42,6 @@ pub record Still (m j : List ℕ) (out : Outcome) : Type 0 where
 still : (m j : List ℕ) (a : EditAnswer) → saysDone (edited a) ≡ false → Still m j (saying m j a)
 still m j a e = record { map = refl; journal = refl; idle = e }
 
--- how an edit starts, in a map that is accepted
-pub start-of : (m : List ℕ) (used : ℕ) (j : List ℕ) (e n : ℕ) → verdict m used ≡ verdicts.Accepted n → startOf m used j e ≡ afterLook m n (looked j m n e)
-unfolding startOf
-start-of m used j e n v = rw v
-
 -- what a done change tells
 pub record DoneChange (m : List ℕ) (used : ℕ) (j : List ℕ) (e kind s n : ℕ) (out : Outcome) : Type 0 where
   pub number : e ≡ 0 → ⊥
@@ -56,7 +53,7 @@ pub record DoneChange (m : List ℕ) (used : ℕ) (j : List ℕ) (e kind s n : �
   pub map : out .map ≡ withSym m s (symFor kind m s)
   pub journal : out .journal ≡ appended j (recordFor e kind s)
 
-module _ (m : List ℕ) (used : ℕ) (j : List ℕ) (e kind s n : ℕ) (v : verdict m used ≡ verdicts.Accepted n) where
+module _ (m : List ℕ) (used : ℕ) (j : List ℕ) (e kind s n : ℕ) (v : Editable m used n) where
   repeat-still : (k t : ℕ) → Still m j (repeatChange m used j kind s k t)
   unfolding repeatChange
   repeat-still k t = go (eqb k kind && eqb t s)
@@ -80,7 +77,7 @@ module _ (m : List ℕ) (used : ℕ) (j : List ℕ) (e kind s n : ℕ) (v : verd
 
   pub change-cases : Still m j (changed m used j e kind s) ⊎ DoneChange m used j e kind s n (changed m used j e kind s)
   unfolding changed
-  change-cases = rw (start-of m used j e n v) (go (looked j m n e) refl)
+  change-cases = rw (start-look m used j e v refl) (go (looked j m n e) refl)
     where
       abbrev-after : JournalLook → Outcome
       abbrev-after l = after m j (λ n k t. repeatChange m used j kind s k t) (λ n. freshChange m used j e kind s (allowedFor kind m used n s) (symFor kind m s)) (afterLook m n l)
@@ -103,7 +100,7 @@ pub record DoneAdd (m : List ℕ) (used : ℕ) (j : List ℕ) (e : ℕ) (o : Lis
   pub map : out .map ≡ addedMap m used n o
   pub journal : out .journal ≡ appended j (recordFor e 1 (freeSlot m n))
 
-module _ (m : List ℕ) (used : ℕ) (j : List ℕ) (e : ℕ) (o : List ℕ) (n : ℕ) (v : verdict m used ≡ verdicts.Accepted n) where
+module _ (m : List ℕ) (used : ℕ) (j : List ℕ) (e : ℕ) (o : List ℕ) (n : ℕ) (v : Editable m used n) where
   repeat-add-still : (k t : ℕ) → Still m j (repeatAdd m used j o k t)
   unfolding repeatAdd
   repeat-add-still k t = go (eqb k 1 && isObject m used (slotIn m t) o)
@@ -143,7 +140,7 @@ module _ (m : List ℕ) (used : ℕ) (j : List ℕ) (e : ℕ) (o : List ℕ) (n 
 
   pub add-cases : Still m j (added m used j e o) ⊎ DoneAdd m used j e o n (added m used j e o)
   unfolding added
-  add-cases = rw (start-of m used j e n v) (go (looked j m n e) refl)
+  add-cases = rw (start-look m used j e v refl) (go (looked j m n e) refl)
     where
       then : JournalLook → Outcome
       then l = after m j (λ n k t. repeatAdd m used j o k t) (λ n. freshAdd m used j e o n) (afterLook m n l)
@@ -158,22 +155,35 @@ module _ (m : List ℕ) (used : ℕ) (j : List ℕ) (e : ℕ) (o : List ℕ) (n 
       → newLength m used n o ≤ 16777216 → newLength m used n o ≤ length m → isFull j ≡ false → added m used j e o ≡ addDone
   unfolding added looked freshAdd
   add-done ne f w good limit fits room =
-      rw (start-of m used j e n v, ne-eqb e 0 ne, w, f, good, le-leb (newLength m used n o) 16777216 limit, le-leb (newLength m used n o) (length m) fits, room)
+      rw (start-look m used j e v refl, ne-eqb e 0 ne, w, f, good, le-leb (newLength m used n o) 16777216 limit, le-leb (newLength m used n o) (length m) fits, room)
 
 -- ---- in any map at all: what is not done changes nothing
 
-pub any-start : (m : List ℕ) (used : ℕ) (j : List ℕ) (e k p : ℕ) → verdict m used ≡ verdicts.Refused k p → startOf m used j e ≡ starts.Refused k p
-unfolding startOf
-any-start m used j e k p v = rw v
+-- the map alone refuses every edit, with 1 to 7 or with 17
+abbrev pub Barred : List ℕ → ℕ → ℕ → ℕ → Type 0
+Barred m used k p = (j : List ℕ) (e : ℕ) → startOf m used j e ≡ starts.Refused k p
 
-pub change-idle : (m : List ℕ) (used : ℕ) (j : List ℕ) (e kind s : ℕ) (v : Verdict) → verdict m used ≡ v → saysDone (edited (changed m used j e kind s .answer)) ≡ false → Still m j (changed m used j e kind s)
-change-idle m used j e kind s (verdicts.Accepted n) q i =
-    ⊎-elim (λ x. x) (λ d. absurd (never (sym (ap (λ a. saysDone (edited a)) (d .answer)) ∙ i))) (change-cases m used j e kind s n q)
-change-idle m used j e kind s (verdicts.Refused k p) q i =
-    unfold changed in rw (any-start m used j e k p q) (still m j (Refused k p) (rw (any-start m used j e k p q) at i))
+-- a map in two buffers, which have one verdict and, where it is accepted, one version: both bar edits alike, or edits take it
+pub barred-or-editable : (m m′ : List ℕ) (used : ℕ) → verdict m′ used ≡ verdict m used → ((n : ℕ) → verdict m used ≡ verdicts.Accepted n → versionOf m′ ≡ versionOf m)
+    → ((k : ℕ) × (p : ℕ) × Barred m used k p × Barred m′ used k p) ⊎ ((n : ℕ) × Editable m used n)
+barred-or-editable m m′ used same version = go (verdict m used) refl (isWide (versionOf m)) refl
+  where
+    go : (v : Verdict) → verdict m used ≡ v → (b : Bool) → isWide (versionOf m) ≡ b
+        → ((k : ℕ) × (p : ℕ) × Barred m used k p × Barred m′ used k p) ⊎ ((n : ℕ) × Editable m used n)
+    go (verdicts.Refused k p) q b w = inl (k, p, λ j e. start-refused m used j e q, λ j e. start-refused m′ used j e (same ∙ q))
+    go (verdicts.Accepted n) q true w = inl (17, 0, λ j e. start-wide m used j e q w, λ j e. start-wide m′ used j e (same ∙ q) (ap isWide (version n q) ∙ w))
+    go (verdicts.Accepted n) q false w = inr (n, (q, w))
 
-pub add-idle : (m : List ℕ) (used : ℕ) (j : List ℕ) (e : ℕ) (o : List ℕ) (v : Verdict) → verdict m used ≡ v → saysDone (edited (added m used j e o .answer)) ≡ false → Still m j (added m used j e o)
-add-idle m used j e o (verdicts.Accepted n) q i =
-    ⊎-elim (λ x. x) (λ d. absurd (never (sym (ap (λ a. saysDone (edited a)) (d .answer)) ∙ i))) (add-cases m used j e o n q)
-add-idle m used j e o (verdicts.Refused k p) q i =
-    unfold added in rw (any-start m used j e k p q) (still m j (Refused k p) (rw (any-start m used j e k p q) at i))
+pub change-idle : (m : List ℕ) (used : ℕ) (j : List ℕ) (e kind s : ℕ) → saysDone (edited (changed m used j e kind s .answer)) ≡ false → Still m j (changed m used j e kind s)
+change-idle m used j e kind s i =
+    ⊎-elim
+    (λ r. let b = r .2 j e in unfold changed in rw b (still m j (Refused (r .0) (r .1)) (rw b at i)))
+    (λ r. ⊎-elim (λ x. x) (λ d. absurd (never (sym (ap (λ a. saysDone (edited a)) (d .answer)) ∙ i))) (change-cases m used j e kind s (r .0) (r .1)))
+    (barred-or-editable m m used refl (λ n q. refl))
+
+pub add-idle : (m : List ℕ) (used : ℕ) (j : List ℕ) (e : ℕ) (o : List ℕ) → saysDone (edited (added m used j e o .answer)) ≡ false → Still m j (added m used j e o)
+add-idle m used j e o i =
+    ⊎-elim
+    (λ r. let b = r .2 j e in unfold added in rw b (still m j (Refused (r .0) (r .1)) (rw b at i)))
+    (λ r. ⊎-elim (λ x. x) (λ d. absurd (never (sym (ap (λ a. saysDone (edited a)) (d .answer)) ∙ i))) (add-cases m used j e o (r .0) (r .1)))
+    (barred-or-editable m m used refl (λ n q. refl))

@@ -21,10 +21,14 @@ use Rattle.chain.specs.Chains.{place}
 use Rattle.judge.specs.Rules.{slotAt}
 use Rattle.judge.specs.Judging.{versionOf}
 use Rattle.judge.proofs.Judging.{bytes-least}
+use Rattle.accept.specs.declared.Verdict.the-variants.{Accepted}
 use Rattle.accept.specs.Slots.{slotIn, freeSlot}
-use Rattle.accept.proofs.Accepting.{Holds, accepted-tells, accepted-is}
+use Rattle.accept.specs.Verdicts.{verdict}
+use Rattle.accept.proofs.Verdicts.{header-tells}
+use Rattle.accept.proofs.Accepting.{Holds, verdict-tells, accepted-tells, accepted-is, holds-narrow}
 use Rattle.frame.proofs.Frame.{Change}
-use Rattle.frame.proofs.Behind.{SameMap, verdict-same, block-same, number-same, version-alike, place-same, slot-at-same, slot-in-same, free-same}
+use Rattle.frame.proofs.Same.{SameMap, number-same, version-alike}
+use Rattle.frame.proofs.Behind.{verdict-same, block-same, place-same, slot-at-same, slot-in-same, free-same}
 use Rattle.journal.specs.Journals.{recordIn, slotUsed, wellFormed, looked}
 use Rattle.journal.proofs.Journals.{KeepsUse, good-tells, good-is, well-formed-tells, well-formed-is}
 use Rattle.change.specs.Slots.{hasState, withSym, objectSym, canReinstate}
@@ -69,6 +73,13 @@ same-of used m m′ h e =
     short l =
         let a : length m′ ≡ used = ap length (sym (take-all used m′ (omega arith)) ∙ e) ∙ length-take-le used m h in
         omega arith
+
+-- an accepted map, of either layout: its length lies between the limits and in the buffer, and in another buffer it has one version
+pub accepted-length : (m : List ℕ) (used : ℕ) {n : ℕ} → verdict m used ≡ Accepted n → (48 ≤ used) × (used ≤ 16777216) × (used ≤ length m)
+accepted-length m used {n} e = header-tells m used (verdict-tells m used n e .header)
+
+pub accepted-version : {m m′ : List ℕ} {used n : ℕ} → SameMap used m m′ → verdict m used ≡ Accepted n → versionOf m′ ≡ versionOf m
+accepted-version {m} {m′} {used} s e = version-alike s (accepted-length m used e .0)
 
 pub object-sym-same : {m m′ : List ℕ} {used n : ℕ} → SameMap used m m′ → Holds m used n → (s : ℕ) → s < 256 * n → slotIn m s .position + 2 ≤ used
     → objectSym m′ s ≡ objectSym m s
@@ -121,6 +132,10 @@ one-test false true f g = absurd (never (sym (g refl)))
 one-test false false f g = refl
 
 module _ {m m′ : List ℕ} {used n : ℕ} (s : SameMap used m m′) (h : Holds m used n) where
+  -- it is accepted there too
+  pub holds-same : Holds m′ used n
+  holds-same = accepted-tells m′ used n (verdict-same s ∙ accepted-is h, rw (version-alike s (h .low)) (holds-narrow h))
+
   pub used-same : (d : ℕ) → slotUsed m′ n d ≡ slotUsed m n d
   unfolding slotUsed slotIn
   used-same d =
@@ -162,7 +177,7 @@ module _ {m m′ : List ℕ} {used n : ℕ} (s : SameMap used m m′) (h : Holds
         room = s .room′;
         header = λ i l o. s .same i (omega (arith, h .low));
         rest = λ i a l e. s .same i l;
-        index = accepted-tells m′ used n (verdict-same s ∙ accepted-is h) .index;
+        index = holds-same .index;
         upto = omega arith;
         blocks = λ k l. block-same s h k (omega arith);
         new = λ k a b. absurd (impossible k a b);
