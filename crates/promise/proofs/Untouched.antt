@@ -52,9 +52,9 @@ module _ {st : State} {n : ℕ} (x : Shut st n) where
 shut-run : {st : State} {n : ℕ} → Shut st n → (xs : List Event) → Fair st xs → Untouched st xs
 unfolding run doneIn
 shut-run x [] a = record { map = refl; used = refl; journal = refl; none = refl; told = shut-says x }
-shut-run {st} x (made c ∷ xs) a =
+shut-run {st} {n} x (made c ∷ xs) a =
     let e = shut-step x c in
-    let r : Untouched (step st c) xs = shut-run (rw e x) xs (a .1) in
+    let r : Untouched (step st c) xs = shut-run {n = n} (rw e x) xs (a .1) in
     record {
       map = r .map ∙ ap mapOf e;
       used = r .used ∙ ap (λ (y : State). y .used) e;
