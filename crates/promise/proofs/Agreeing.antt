@@ -14,7 +14,7 @@ use Rattle.numbers.specs.Below.{sel}
 use Rattle.numbers.proofs.Ranges.{within-true}
 use Rattle.slots.specs.declared.Slot.{Slot}
 use Rattle.slots.specs.declared.State.the-variants.{Erased, Live}
-use Rattle.slots.specs.Slots.{stateOf, sameState, bytesIn}
+use Rattle.slots.specs.Slots.{bytesIn}
 use Rattle.records.specs.Sizes.{mapLimit}
 use Rattle.records.specs.Headers.{isWide}
 use Rattle.records.specs.Journals.{recordFor}
@@ -45,7 +45,7 @@ use Rattle.change.proofs.Syms.{has-tells}
 use Rattle.change.specs.Changes.{repeatChange, freshChange, changed}
 use Rattle.add.specs.Objects.{offeredGood, isObject}
 use Rattle.add.specs.Adds.{newLength, addedMap, repeatAdd, freshAdd, added}
-use Rattle.promise.specs.Runs.{add, search, edited, lengthAfter, grown}
+use Rattle.promise.specs.Runs.{edited, lengthAfter, grown}
 use Rattle.promise.proofs.Moves.{use-tells}
 use Rattle.promise.proofs.Contents.{can-exists, can-parts, can-good}
 use Rattle.promise.proofs.Whole.{one-test, same-of, accepted-version, holds-same, sym-whole, added-whole, object-sym-same, has-same, looked-same}

@@ -29,24 +29,24 @@ use Rattle.change.specs.Changes.{changed}
 use Rattle.add.specs.Adds.{added}
 use Rattle.promise.specs.Runs.{State, Call, add, remove, reinstate, search, edited, searched, outcome, ofEdit, lengthAfter, next, step, withBuffer}
 use Rattle.promise.specs.Buffers.{Alike, TooShort, BytesBehind}
-use Rattle.promise.proofs.Steps.{Barred, barred-or-editable}
+use Rattle.promise.proofs.Steps.{RefusesEdits, refused-or-editable}
 use Rattle.promise.proofs.Whole.{same-of, accepted-version}
 use Rattle.promise.proofs.Agreeing.{Agree, first-same, refused-agree, change-agree, add-agree, found-same}
 
 -- ---- in any map at all
 
 module _ {m m′ : List ℕ} {used : ℕ} (s : SameMap used m m′) where
-  -- both buffers bar every edit alike, or the map is accepted and of 6 to 8
-  abbrev BothBarred : Type 0
-  BothBarred = (k : ℕ) × (p : ℕ) × Barred m used k p × Barred m′ used k p
+  -- in both buffers the map refuses every edit alike, or it is accepted and of 6 to 8
+  abbrev BothRefuse : Type 0
+  BothRefuse = (k : ℕ) × (p : ℕ) × RefusesEdits m used k p × RefusesEdits m′ used k p
 
-  both : BothBarred ⊎ ((n : ℕ) × Editable m used n)
-  both = barred-or-editable m m′ used (verdict-same s) (λ n q. accepted-version s q)
+  both : BothRefuse ⊎ ((n : ℕ) × Editable m used n)
+  both = refused-or-editable m m′ used (verdict-same s) (λ n q. accepted-version s q)
 
   change-any : Bytes m → Bytes m′ → (j : List ℕ) (e kind d : ℕ) → Agree used (changed m used j e kind d) (changed m′ used j e kind d)
   change-any b b′ j e kind d =
       ⊎-elim
-      (λ (r : BothBarred). unfold changed in rw (r .2 j e, r .3 j e) (refused-agree s j (r .0) (r .1)))
+      (λ (r : BothRefuse). unfold changed in rw (r .2 j e, r .3 j e) (refused-agree s j (r .0) (r .1)))
       (λ r. change-agree s (accepted-tells m used (r .0) (r .1)) b b′ j e kind d)
       both
 
@@ -54,7 +54,7 @@ module _ {m m′ : List ℕ} {used : ℕ} (s : SameMap used m m′) where
       → Agree used (added m used j e o) (added m′ used j e o) ⊎ ((added m used j e o .answer ≡ Refused 11 0) ⊎ (added m′ used j e o .answer ≡ Refused 11 0))
   add-any j e o =
       ⊎-elim
-      (λ (r : BothBarred). inl (unfold added in rw (r .2 j e, r .3 j e) (refused-agree s j (r .0) (r .1))))
+      (λ (r : BothRefuse). inl (unfold added in rw (r .2 j e, r .3 j e) (refused-agree s j (r .0) (r .1))))
       (λ r. add-agree s (accepted-tells m used (r .0) (r .1)) j e o)
       both
 

@@ -160,16 +160,16 @@ module _ (m : List ℕ) (used : ℕ) (j : List ℕ) (e : ℕ) (o : List ℕ) (n 
 -- ---- in any map at all: what is not done changes nothing
 
 -- the map alone refuses every edit, with 1 to 7 or with 17
-abbrev pub Barred : List ℕ → ℕ → ℕ → ℕ → Type 0
-Barred m used k p = (j : List ℕ) (e : ℕ) → startOf m used j e ≡ starts.Refused k p
+abbrev pub RefusesEdits : List ℕ → ℕ → ℕ → ℕ → Type 0
+RefusesEdits m used k p = (j : List ℕ) (e : ℕ) → startOf m used j e ≡ starts.Refused k p
 
--- a map in two buffers, which have one verdict and, where it is accepted, one version: both bar edits alike, or edits take it
-pub barred-or-editable : (m m′ : List ℕ) (used : ℕ) → verdict m′ used ≡ verdict m used → ((n : ℕ) → verdict m used ≡ verdicts.Accepted n → versionOf m′ ≡ versionOf m)
-    → ((k : ℕ) × (p : ℕ) × Barred m used k p × Barred m′ used k p) ⊎ ((n : ℕ) × Editable m used n)
-barred-or-editable m m′ used same version = go (verdict m used) refl (isWide (versionOf m)) refl
+-- a map in two buffers, with one verdict and, where it is accepted, one version: both refuse every edit alike, or it is accepted and of 6 to 8
+pub refused-or-editable : (m m′ : List ℕ) (used : ℕ) → verdict m′ used ≡ verdict m used → ((n : ℕ) → verdict m used ≡ verdicts.Accepted n → versionOf m′ ≡ versionOf m)
+    → ((k : ℕ) × (p : ℕ) × RefusesEdits m used k p × RefusesEdits m′ used k p) ⊎ ((n : ℕ) × Editable m used n)
+refused-or-editable m m′ used same version = go (verdict m used) refl (isWide (versionOf m)) refl
   where
     go : (v : Verdict) → verdict m used ≡ v → (b : Bool) → isWide (versionOf m) ≡ b
-        → ((k : ℕ) × (p : ℕ) × Barred m used k p × Barred m′ used k p) ⊎ ((n : ℕ) × Editable m used n)
+        → ((k : ℕ) × (p : ℕ) × RefusesEdits m used k p × RefusesEdits m′ used k p) ⊎ ((n : ℕ) × Editable m used n)
     go (verdicts.Refused k p) q b w = inl (k, p, λ j e. start-refused m used j e q, λ j e. start-refused m′ used j e (same ∙ q))
     go (verdicts.Accepted n) q true w = inl (17, 0, λ j e. start-wide m used j e q w, λ j e. start-wide m′ used j e (same ∙ q) (ap isWide (version n q) ∙ w))
     go (verdicts.Accepted n) q false w = inr (n, (q, w))
@@ -179,11 +179,11 @@ change-idle m used j e kind s i =
     ⊎-elim
     (λ r. let b = r .2 j e in unfold changed in rw b (still m j (Refused (r .0) (r .1)) (rw b at i)))
     (λ r. ⊎-elim (λ x. x) (λ d. absurd (never (sym (ap (λ a. saysDone (edited a)) (d .answer)) ∙ i))) (change-cases m used j e kind s (r .0) (r .1)))
-    (barred-or-editable m m used refl (λ n q. refl))
+    (refused-or-editable m m used refl (λ n q. refl))
 
 pub add-idle : (m : List ℕ) (used : ℕ) (j : List ℕ) (e : ℕ) (o : List ℕ) → saysDone (edited (added m used j e o .answer)) ≡ false → Still m j (added m used j e o)
 add-idle m used j e o i =
     ⊎-elim
     (λ r. let b = r .2 j e in unfold added in rw b (still m j (Refused (r .0) (r .1)) (rw b at i)))
     (λ r. ⊎-elim (λ x. x) (λ d. absurd (never (sym (ap (λ a. saysDone (edited a)) (d .answer)) ∙ i))) (add-cases m used j e o (r .0) (r .1)))
-    (barred-or-editable m m used refl (λ n q. refl))
+    (refused-or-editable m m used refl (λ n q. refl))
