@@ -28,7 +28,7 @@ use Rattle.accept.specs.Slots.{slotIn, freeSlot}
 use Rattle.accept.specs.declared.Verdict.the-variants.{Accepted}
 use Rattle.accept.specs.Verdicts.{verdict}
 use Rattle.accept.proofs.Accepting.{Holds, editable-is}
-use Rattle.frame.proofs.Same.{SameMap, number-same, part-same, version-alike, slot-same, wide-slot-same}
+use Rattle.frame.proofs.Same.{SameMap, number-same, part-same, version-alike, slot-read, wide-slot-read}
 use Rattle.frame.proofs.Behind.{verdict-same, slot-place-same, slot-place-low, slot-in-same, free-same}
 use Rattle.look.specs.Found.{liveAt, slotsFor, found}
 use Rattle.journal.specs.declared.JournalLook.{JournalLook}
@@ -256,8 +256,8 @@ module _ {m m′ : List ℕ} {used : ℕ} (s : SameMap used m m′) where
 
   live-alike : (b : Bool) (w : Window) (p : ℕ) → p + familyFor b .slot ≤ used → liveAt (familyFor b) m′ w p ≡ liveAt (familyFor b) m w p
   unfolding liveAt
-  live-alike true w p l = rw (wide-slot-same s p l, rectangle-same p (omega arith))
-  live-alike false w p l = rw (slot-same s p l, rectangle-same p (omega arith))
+  live-alike true w p l = rw (wide-slot-read s p l, rectangle-same p (omega arith))
+  live-alike false w p l = rw (slot-read s p l, rectangle-same p (omega arith))
 
   pub found-same : {n : ℕ} → verdict m used ≡ Accepted n → (w : Window) → found m′ n w ≡ found m n w
   unfolding slotsFor
