@@ -3,7 +3,8 @@
 --     orOpened j o            the refusal of the fault that j has, or else o
 --     openedAfter, openedOf   5, then 6, by the walk of the index blocks; and 1 to 4 before them: a refusal, or the number of index blocks
 --     afterOpened m used o    the check's answer for a map that was opened: the refusal, or 7, or accepted
---     entryFault, slotFault   whether the symbol entry or the slot at a place is at fault, in a map of version v with the table t of its index blocks
+--     entryFault b m used t   whether the symbol entry at a place is at fault, in a map of 9 to 11 where b is true, with the table t of its index blocks;
+--     slotFault v m used t    the same of the slot at a place, in a map of version v
 --     OpenOf f m used n t     1 to 5 hold for a map of the layout f, with n index blocks, which are in the table, filled; Open m: of the map's own layout
 --     Opens m used t o        the map is open where o is no refusal
 --     firstFree b f s         the first free slot by the one found before s, f, and whether s is free
@@ -28,7 +29,7 @@ use Rattle.accept.specs.declared.JudgedMap.the-variants.{Good, Bad}
 use Rattle.accept.specs.declared.OpenedMap.{OpenedMap}
 use Rattle.accept.specs.declared.OpenedMap.the-variants as opened
 use Rattle.chain.specs.Indexed.{Indexed}
-use Rattle.judge.specs.Rules.{Family, familyIn, familyOf, indexRuleOf}
+use Rattle.judge.specs.Rules.{Family, familyFor, familyIn, familyOf, indexRuleOf}
 use Rattle.accept.specs.Verdicts.{unless, headerJudged, symbolsJudged, slotsJudged}
 use Rattle.accept.specs.declared.ExaminedMap.{ExaminedMap}
 use Rattle.accept.specs.declared.ExaminedMap.the-variants as examined
@@ -50,8 +51,8 @@ abbrev pub afterOpened : List ℕ → ℕ → OpenedMap → Verdict
 afterOpened m used (opened.Blocks n) = unless (slotsJudged m used n) (Accepted n)
 afterOpened m used (opened.Refused k p) = Refused k p
 
-abbrev pub entryFault : ℕ → List ℕ → ℕ → List ℕ → ℕ → Bool
-entryFault v m used t = familyIn v .entryAtFault (endsMeet (familyIn v .block) t) m used
+abbrev pub entryFault : Bool → List ℕ → ℕ → List ℕ → ℕ → Bool
+entryFault b m used t = familyFor b .entryAtFault (endsMeet (familyFor b .block) t) m used
 
 abbrev pub slotFault : ℕ → List ℕ → ℕ → List ℕ → ℕ → Bool
 slotFault v m used t = familyIn v .slotAtFault (endsMeet (familyIn v .block) t) m used

@@ -10,6 +10,7 @@ use numbers::u32_at;
 use records::Header;
 use records::LINK;
 use records::SymbolBlock;
+use records::is_wide;
 ghost use mathlib.Core.Path.{_≡_};
 ghost use Prim.Native.Nat.{_+_, _*_, _≤_, _<_};
 ghost use lib.ListN.{length};
@@ -20,27 +21,21 @@ ghost use Rattle.chain.specs.Cells.{cellIn};
 ghost use Rattle.chain.specs.Tables.{Empty, EndsTable};
 ghost use Rattle.chain.specs.declared.Walk.the-variants.{Blocks};
 ghost use Rattle.chain.specs.Indexed.{Indexed};
-ghost use Rattle.judge.specs.Rules.{familyIn, familyOf, symbolRuleOf};
+ghost use Rattle.judge.specs.Rules.{familyFor, familyOf, symbolRuleOf};
 ghost use Rattle.accept.specs.Opens.{entryFault};
 ghost use Rattle.accept.specs.Verdicts.{cellsJudged, entriesJudged, symbolsJudged};
 
 // 6, of one symbol block: the first entry at fault.
-fn judge_block_entries(
-    m: &[u8],
-    used: usize,
-    version: u16,
-    index: &[u32],
-    block: usize,
-) -> JudgedMap
-    requires { ⌜ (block + symbolBlockSize ≤ used) × Indexed (familyIn version .block) (now m) used (now index) ⌝ }
+fn judge_block_entries(m: &[u8], used: usize, wide: bool, index: &[u32], block: usize) -> JudgedMap
+    requires { ⌜ (block + symbolBlockSize ≤ used) × Indexed (familyFor wide .block) (now m) used (now index) ⌝ }
     ensures { λ r. ⌜ r
-        ≡ cellsJudged 6 (λ e. entryFault version (now (m .entry)) used (now (index .entry)) (cellIn block entrySize e)) (cellIn block entrySize) blockCells ⌝ }
+        ≡ cellsJudged 6 (λ e. entryFault wide (now (m .entry)) used (now (index .entry)) (cellIn block entrySize e)) (cellIn block entrySize) blockCells ⌝ }
 {
     let mut at = block + LINK;
     let mut e = 0usize;
     while e < SymbolBlock::ENTRIES {
         let p = u32_at(m, at) as usize;
-        if entry_at_fault(m, used, version, index, p) {
+        if entry_at_fault(m, used, wide, index, p) {
             return JudgedMap::Bad {
                 number: 6,
                 place: at as u32,
@@ -58,12 +53,12 @@ fn judge_entries(m: &[u8], used: usize, index: &[u32], n: usize, k: usize) -> Ju
         × (k ≡ taken (symbolRuleOf (familyOf (now m)) (now m) n) (now m) used) ⌝ }
     ensures { λ r. ⌜ r ≡ entriesJudged (now (m .entry)) used n k ⌝ }
 {
-    let version = u16_at(m, Header::VERSION);
+    let wide = is_wide(u16_at(m, Header::VERSION));
     let mut at = Header::SYMBOLS;
     let mut i = 0;
     while i < k {
         at = u32_at(m, at) as usize;
-        let j = judge_block_entries(m, used, version, index, at);
+        let j = judge_block_entries(m, used, wide, index, at);
         match j {
             JudgedMap::Bad { number, place } => {
                 return JudgedMap::Bad { number, place };

@@ -28,7 +28,7 @@ ghost use Rattle.slots.specs.Slots.{slotOf, lenGood, bytesIn, bytesInRange};
 ghost use Rattle.chain.specs.Cells.{cellIn};
 ghost use Rattle.chain.specs.Tables.{endsMeet};
 ghost use Rattle.chain.specs.Indexed.{Indexed};
-ghost use Rattle.judge.specs.Rules.{familyIn};
+ghost use Rattle.judge.specs.Rules.{familyFor, familyIn};
 ghost use Rattle.judge.specs.Kinds.{partSize, indexKind, symbolKind};
 ghost use Rattle.judge.specs.Judging.{partGood, headerFits, objectGood, slotGood, badSlot, symbolGood, badEntry};
 
@@ -140,13 +140,13 @@ fn bad_entry(m: &[u8], used: usize, index: &[u32], p: usize) -> bool
     !symbol_good(m, used, index, p)
 }
 
-// Whether a symbol entry that says p, in a map of this version, is used and its record is not good.
-pub fn entry_at_fault(m: &[u8], used: usize, version: u16, index: &[u32], p: usize) -> bool
-    requires { ⌜ (p < 4294967296) × Indexed (familyIn version .block) (now m) used (now index) ⌝ }
+// Whether a symbol entry that says p, in a map of either layout, is used and its record is not good.
+pub fn entry_at_fault(m: &[u8], used: usize, wide: bool, index: &[u32], p: usize) -> bool
+    requires { ⌜ (p < 4294967296) × Indexed (familyFor wide .block) (now m) used (now index) ⌝ }
     ensures { λ r. ⌜ ((at : ℕ) → p ≡ u32At (now (m .entry)) at
-        → r ≡ familyIn version .entryAtFault (endsMeet (familyIn version .block) (now (index .entry))) (now (m .entry)) used at) ⌝ }
+        → r ≡ familyFor wide .entryAtFault (endsMeet (familyFor wide .block) (now (index .entry))) (now (m .entry)) used at) ⌝ }
 {
-    if is_wide(version) {
+    if wide {
         return wide_bad_entry(m, used, index, p);
     }
     bad_entry(m, used, index, p)

@@ -10,10 +10,10 @@ use Rattle.accept.proofs.entries.judge_block_entries.Statement.{stateme
 use Rattle.accept.proofs.entries.judge_block_entries.Tie as tie
 
 abbrev Inv-loop : tie.InvT-loop
-Inv-loop m used version index block at₀ e₀ at e = Looking (cellIn block entrySize) 256 (entryFault version m used index) at e
+Inv-loop m used wide index block at₀ e₀ at e = Looking (cellIn block entrySize) 256 (entryFault wide m used index) at e
 
 abbrev μ-loop : tie.MeasureT-loop
-μ-loop m used version index block at₀ e₀ at e = 256 - e
+μ-loop m used wide index block at₀ e₀ at e = 256 - e
 
 loop-holds : tie.Need-loop-holds Inv-loop μ-loop
 unfolding cellIn

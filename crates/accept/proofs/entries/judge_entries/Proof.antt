@@ -3,12 +3,14 @@ use native.Mathlib.Omega.{arith}
 use Prim.Native.Nat.{ℕ, _-_}
 use mathlib.Core.Bool.{Bool}
 use mathlib.Core.List.{List}
-use mathlib.Core.Path.{_≡_, sym, _∙_}
+use mathlib.Core.Path.{_≡_, sym, ap, _∙_}
 use denote.Ref.{now}
 use borrow.Author.Needs.{needs}
 use Rattle.records.specs.Sizes.{entrySize}
 use Rattle.chain.specs.Cells.{cellIn}
 use Rattle.chain.proofs.Chains.{taken-pass}
+use Rattle.records.specs.Headers.{isWide}
+use Rattle.judge.specs.Judging.{versionOf}
 use Rattle.judge.specs.Rules.{familyOf, symbolRuleOf, touchesOf}
 use Rattle.accept.specs.Verdicts.{cellsJudged, entriesJudgedOf}
 use Rattle.judge.proofs.Judging.{same-touch}
@@ -21,14 +23,18 @@ abbrev at-fault : List ℕ → ℕ → ℕ → ℕ → Bool
 at-fault m used n = familyOf m .entryAtFault (touchesOf (familyOf m) m n) m used
 
 abbrev Inv-loop : tie.InvT-loop
-Inv-loop m used index n k version at₀ i₀ at i = Along (symbolRuleOf (familyOf m) m n) m used entrySize k (at-fault m used n) at i
+Inv-loop m used index n k wide at₀ i₀ at i = Along (symbolRuleOf (familyOf m) m n) m used entrySize k (at-fault m used n) at i
 
 abbrev μ-loop : tie.MeasureT-loop
-μ-loop m used index n k version at₀ i₀ at i = k - i
+μ-loop m used index n k wide at₀ i₀ at i = k - i
+
+-- the layout that was asked for is the map's
+layout : (c : tie.After-is-wide Inv-loop μ-loop) → c .is-wide .result ≡ isWide (versionOf (now (c .before .before .before .before .args .m)))
+layout c = c .is-wide .ensures ∙ ap isWide (c .before .u16-at .ensures)
 
 loop-holds : tie.Need-loop-holds Inv-loop μ-loop
 loop-holds c =
-    let s = c .before .before .before in
+    let s = c .before .before .before .before in
     let m = now (s .args .m) in
     along-start (rw (s .pre .3) (taken-pass (symbolRuleOf (familyOf m) m (s .args .n)) m (s .args .used))) (omega arith)
 
@@ -39,14 +45,14 @@ judge-block-entries-requires : tie.Need-judge-block-entries-requires Inv-loop μ
 judge-block-entries-requires c κs =
     let t = c .before in
     let v = t .before .before in
-    (along-inside (t .before .loop .inv) (t .loop-test .taken) (c .u32-at .ensures), rw (v .u16-at .ensures) (v .before .before .before .pre .1))
+    (along-inside (t .before .loop .inv) (t .loop-test .taken) (c .u32-at .ensures), rw (layout v) (v .before .before .before .before .pre .1))
 
 -- what the entries of this turn's block are judged to be, by the chain in the place of the table
-told : (c : tie.After-judge-block-entries Inv-loop μ-loop) → let a = c .before .before .before .before .before .before .before .args in c .judge-block-entries .result ≡ cellsJudged 6 (λ e. at-fault (now (a .m)) (a .used) (a .n) (cellIn (c .before .u32-at .result) entrySize e)) (cellIn (c .before .u32-at .result) entrySize) 256
+told : (c : tie.After-judge-block-entries Inv-loop μ-loop) → let a = c .before .before .before .before .before .before .before .before .args in c .judge-block-entries .result ≡ cellsJudged 6 (λ e. at-fault (now (a .m)) (a .used) (a .n) (cellIn (c .before .u32-at .result) entrySize e)) (cellIn (c .before .u32-at .result) entrySize) 256
 told c =
     let v = c .before .before .before .before in
-    let s = v .before .before .before in
-    rw (at-fault, ← same-touch (familyOf (now (s .args .m))) (s .pre .2)) (rw (v .u16-at .ensures) at (c .judge-block-entries .ensures))
+    let s = v .before .before .before .before in
+    rw (at-fault, ← same-touch (familyOf (now (s .args .m))) (s .pre .2)) (rw (layout v) at (c .judge-block-entries .ensures))
 
 returns : tie.Need-returns Inv-loop μ-loop
 unfolding entriesJudgedOf
@@ -72,6 +78,7 @@ judge-entries-spec =
     Inv-loop
     μ-loop
     (λ c κs. omega arith)
+    (λ c κs. search needs)
     loop-holds
     u32-at-requires
     (λ c. search needs)
