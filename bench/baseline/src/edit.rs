@@ -1,8 +1,11 @@
-//! The edits: check, journal, then the edit's own refusals; nothing is written before the last one.
+//! The edits: check, 17 on maps that are not edited, journal, then the edit's own refusals; nothing is written
+//! before the last one.
 
 use crate::bytes::*;
-use crate::check::{check_noting, Accepted, Layout, Notes};
+use crate::check::{check_noting, Accepted, Notes, Opened};
 use crate::journal::{self, Records, ADD, REINSTATE, REMOVE};
+use crate::layout::{Block, Slot};
+use crate::narrow::{Head, IndexBlock, Narrow};
 use crate::{refuse, Refusal};
 
 pub struct Done {
@@ -30,10 +33,12 @@ impl Notes for FirstFree {
 }
 
 impl Lent<'_> {
-    fn open(&self, notes: &mut impl Notes) -> Result<(Accepted<'_>, Records), Refusal> {
-        let accepted = check_noting(self.map, self.used, notes)?;
-        let records = journal::read(self.journal, &accepted, self.edit)?;
-        Ok((accepted, records))
+    fn open(&self, notes: &mut impl Notes) -> Result<(Opened<'_, Narrow>, Records), Refusal> {
+        let Accepted::Narrow(opened) = check_noting(self.map, self.used, notes)? else {
+            return refuse(17, 0);
+        };
+        let records = journal::read(self.journal, &opened, self.edit)?;
+        Ok((opened, records))
     }
 
     fn done(&self, before: bool, slot: u32, length: usize) -> Result<Done, Refusal> {
@@ -53,30 +58,30 @@ impl Lent<'_> {
 pub fn add(lent: &mut Lent, object: &[u8]) -> Result<Done, Refusal> {
     let used = lent.used;
     let mut first_free = FirstFree(None);
-    let (accepted, records) = lent.open(&mut first_free)?;
+    let (opened, records) = lent.open(&mut first_free)?;
     if let Some((kind, slot)) = records.held {
-        let place = accepted.place_of(slot).unwrap();
-        let stored = accepted.slot_at(place);
-        return lent.repeat(kind == ADD && accepted.object_of(&stored) == Some(object), slot);
+        let place = opened.place_of(slot).unwrap();
+        let stored = opened.slot_at(place);
+        return lent.repeat(kind == ADD && object_of(&opened, &stored) == Some(object), slot);
     }
-    let head = match offered(accepted.layout, object) {
+    let head = match offered(opened.layout, object) {
         Some(head) => head,
         None => return refuse(10, 0),
     };
     let block = used + object.len();
     let (slot, place, length) = match first_free.0 {
-        Some(slot) => (slot, accepted.place_of(slot).unwrap(), block),
-        None => ((accepted.blocks.len() * SLOTS) as u32, block + LINK, block + BLOCK),
+        Some(slot) => (slot, opened.place_of(slot).unwrap(), block),
+        None => ((opened.blocks.len() * SLOTS) as u32, block + LINK, block + IndexBlock::SIZE),
     };
     if length > MOST || length > lent.map.len() {
         return refuse(11, 0);
     }
     let record = records.room()?;
-    let len = match accepted.layout {
-        Layout::Bytes => object.len(),
-        Layout::Pairs => head.items + head.texts,
+    let len = match opened.layout {
+        Narrow::Bytes => object.len(),
+        Narrow::Pairs => head.items + head.texts,
     };
-    let last = accepted.blocks.last().map_or(12, |&last| last as usize);
+    let last = opened.blocks.last().map_or(12, |&last| last as usize);
 
     let map = &mut *lent.map;
     map[used..block].copy_from_slice(object);
@@ -90,8 +95,16 @@ pub fn add(lent: &mut Lent, object: &[u8]) -> Result<Done, Refusal> {
     lent.done(false, slot, length)
 }
 
+/// The bytes of a slot's object, if it starts at 48 or later and lies inside.
+fn object_of<'a>(opened: &Opened<'a, Narrow>, slot: &Slot) -> Option<&'a [u8]> {
+    if slot.position < HEADER {
+        return None;
+    }
+    opened.map.get(slot.position..slot.position + opened.layout.size(slot.len))
+}
+
 /// The header of an offered object that is well formed.
-fn offered(layout: Layout, object: &[u8]) -> Option<Head> {
+fn offered(layout: Narrow, object: &[u8]) -> Option<Head> {
     if object.len() < OBJECT + PAIR {
         return None;
     }
@@ -115,12 +128,12 @@ fn rectangle(pairs: &[u8]) -> [i32; 4] {
     least
 }
 
-fn write_slot(slot: &mut [u8], rectangle: [i32; 4], position: u32, len: u16, sym: i16) {
+fn write_slot(slot: &mut [u8], rectangle: [i32; 4], position: u32, len: u16, sym: u16) {
     for (i, side) in rectangle.into_iter().enumerate() {
         put_u32(slot, 4 * i, side as u32);
     }
     put_u32(slot, 16, position);
-    put_u32(slot, 20, len as u32 | (sym as u16 as u32) << 16);
+    put_u32(slot, 20, len as u32 | (sym as u32) << 16);
 }
 
 pub fn remove(lent: &mut Lent, at: u32) -> Result<Done, Refusal> {
@@ -128,10 +141,11 @@ pub fn remove(lent: &mut Lent, at: u32) -> Result<Done, Refusal> {
 }
 
 pub fn reinstate(lent: &mut Lent, at: u32) -> Result<Done, Refusal> {
-    change(lent, at, REINSTATE, |accepted, slot| {
-        let object = accepted.map.get(slot.position..slot.position + 2)?;
-        let sym = u16_at(object, 0) as i16;
-        (slot.erased() && sym != 0 && accepted.good_with(slot, sym)).then_some(sym)
+    change(lent, at, REINSTATE, |opened, slot| {
+        let object = opened.map.get(slot.position..slot.position + 2)?;
+        let sym = u16_at(object, 0);
+        let with_sym = Slot { sym: sym.into(), ..slot };
+        (slot.erased() && sym != 0 && opened.is_good(&with_sym)).then_some(sym)
     })
 }
 
@@ -140,14 +154,14 @@ fn change(
     lent: &mut Lent,
     at: u32,
     kind: u32,
-    wanted: impl Fn(&Accepted, &Slot) -> Option<i16>,
+    wanted: impl Fn(&Opened<Narrow>, Slot) -> Option<u16>,
 ) -> Result<Done, Refusal> {
-    let (accepted, records) = lent.open(&mut ())?;
+    let (opened, records) = lent.open(&mut ())?;
     if let Some(held) = records.held {
         return lent.repeat(held == (kind, at), at);
     }
-    let found = accepted.place_of(at).and_then(|place| {
-        let sym = wanted(&accepted, &accepted.slot_at(place))?;
+    let found = opened.place_of(at).and_then(|place| {
+        let sym = wanted(&opened, opened.slot_at(place))?;
         Some((place, sym))
     });
     let Some((place, sym)) = found else { return refuse(12, 0) };

@@ -1,7 +1,8 @@
 //! The journal: its records in use are judged in one pass, which also looks for the edit's number.
 
 use crate::bytes::{put_u32, u16_at, u32_at, RECORD};
-use crate::check::Accepted;
+use crate::check::Opened;
+use crate::narrow::Narrow;
 use crate::{refuse, Refusal};
 
 pub const ADD: u32 = 1;
@@ -16,7 +17,7 @@ pub struct Records {
     pub held: Option<(u32, u32)>,
 }
 
-pub fn read(journal: &[u8], accepted: &Accepted, edit: u32) -> Result<Records, Refusal> {
+pub fn read(journal: &[u8], opened: &Opened<Narrow>, edit: u32) -> Result<Records, Refusal> {
     if journal.len() % RECORD != 0 || journal.len() > 65_536 || edit == 0 {
         return refuse(13, 0);
     }
@@ -27,7 +28,7 @@ pub fn read(journal: &[u8], accepted: &Accepted, edit: u32) -> Result<Records, R
     for record in journal[..in_use * RECORD].chunks_exact(RECORD) {
         let (number, kind) = (u32_at(record, 0), u32_at(record, 4));
         let (slot, zeros) = (u32_at(record, 8), u32_at(record, 12));
-        let taken = accepted.place_of(slot).is_some_and(|at| u16_at(accepted.map, at + 20) != 0);
+        let taken = opened.place_of(slot).is_some_and(|at| u16_at(opened.map, at + 20) != 0);
         let good = number != 0 && matches!(kind, ADD..=REINSTATE) && zeros == 0 && taken;
         if !good || !numbers.insert(number) {
             return refuse(13, 0);

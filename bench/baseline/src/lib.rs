@@ -1,4 +1,5 @@
-//! Document 01 in plain safe Rust, written for speed: what the proved library is measured against.
+//! Document 01 and request f) of document 02 in plain safe Rust, written for speed: what the proved library
+//! is measured against.
 //!
 //! `check` judges a map in linear time and keeps what it learnt; `search` and `edit` begin with it, and note
 //! what they need of the slots on its way.
@@ -10,8 +11,11 @@ mod bytes;
 mod check;
 mod edit;
 mod journal;
+mod layout;
+mod narrow;
 mod search;
 mod taken;
+mod wide;
 
 #[allow(unsafe_code, clippy::missing_safety_doc, clippy::too_many_arguments)]
 pub mod interface;

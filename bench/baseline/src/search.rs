@@ -1,8 +1,10 @@
 //! The search: while the check judges a slot, a bit notes whether the slot meets the window, so that each slot
 //! is read once. The lent list is written from the bits, when nothing can be refused any more.
 
-use crate::bytes::{greatest_raw, least_raw, Slot, BLOCK, MOST, ROW, SLOTS};
+use crate::bytes::{greatest_raw, least_raw, MOST, ROW, SLOTS};
 use crate::check::{check_noting, Notes};
+use crate::layout::{Block, Rectangle};
+use crate::narrow::IndexBlock;
 use crate::{refuse, Refusal};
 
 pub struct Found {
@@ -36,14 +38,14 @@ impl Sides {
         }
     }
 
-    /// 1 if a slot lies apart from the window, else 0: the sign of four distances, of which one is negative.
+    /// 1 if a rectangle lies apart from the window, else 0: the sign of four distances, of which one is negative.
     /// Without branches, since none on a coordinate can be foreseen.
     #[inline]
-    fn apart(&self, slot: &Slot) -> u64 {
-        let distances = (self.right - slot.left as i64)
-            | (slot.right as i64 - self.left)
-            | (self.top - slot.bottom as i64)
-            | (slot.top as i64 - self.bottom);
+    fn apart(&self, other: &Rectangle) -> u64 {
+        let distances = (self.right - other.left as i64)
+            | (other.right as i64 - self.left)
+            | (self.top - other.bottom as i64)
+            | (other.top as i64 - self.bottom);
         distances as u64 >> 63
     }
 }
@@ -76,8 +78,8 @@ impl Notes for Met {
     }
 
     #[inline]
-    fn live(&mut self, slot: &Slot) {
-        self.shift_in(self.sides.apart(slot));
+    fn live(&mut self, rectangle: &Rectangle) {
+        self.shift_in(self.sides.apart(rectangle));
     }
 
     #[inline]
@@ -87,7 +89,8 @@ impl Notes for Met {
 }
 
 pub fn search(buffer: &[u8], used: usize, window: &Window, list: &mut [u32]) -> Result<Found, Refusal> {
-    let most_blocks = used.min(MOST) / BLOCK;
+    // index blocks of 6 to 8, of which more fit a map
+    let most_blocks = used.min(MOST) / IndexBlock::SIZE;
     let rows = Vec::with_capacity(most_blocks * (SLOTS / ROW));
     let mut met = Met { sides: Sides::of(window), not_met: 0, rows };
     let accepted = check_noting(buffer, used, &mut met)?;
@@ -99,7 +102,7 @@ pub fn search(buffer: &[u8], used: usize, window: &Window, list: &mut [u32]) -> 
         return Err(Refusal { number: 9, place: 0, count });
     }
     write(&met.rows, list);
-    Ok(Found { count, blocks: accepted.blocks.len() as u32 })
+    Ok(Found { count, blocks: accepted.blocks() })
 }
 
 /// Writes the numbers of the slots that meet to the list, which has room for them.
