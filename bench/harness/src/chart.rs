@@ -1,5 +1,6 @@
 //! growth.svg: the time of the check over the number of blocks, a line for each side.
 
+use crate::cases::{GROWS, GROWTH};
 use crate::measure::Row;
 use crate::report::{grouped, grown};
 use std::fmt::Write;
@@ -32,7 +33,7 @@ fn step(most: f64) -> f64 {
 }
 
 pub fn growth(rows: &[Row]) -> String {
-    let grown = grown(rows);
+    let grown = grown(rows, GROWS, &GROWTH);
     let line = |ns: fn(&Row) -> f64| -> Vec<(f64, f64)> {
         grown.iter().map(|(blocks, row)| (*blocks as f64, ns(row) / 1e6)).collect()
     };

@@ -1,7 +1,11 @@
-//! Makes maps and journals. Every map is one that document 01 accepts.
+//! Makes maps and journals. Every map is one that the check accepts.
 
-pub const BLOCK: usize = 6_148;
+use crate::forms::{Form, DELETED, HIDDEN, OCAD_8, STATUS_AT, SYM_AT};
+
 pub const SLOTS: usize = 256;
+/// Index blocks of the largest map of 9 to 11.
+pub const MOST_WIDE_BLOCKS: usize = 1_637;
+const HEADER: usize = 48;
 const SYMBOL_BLOCK: usize = 1_028;
 const MOST: usize = 16_777_216;
 /// What the bytes past the map hold.
@@ -29,20 +33,6 @@ impl Random {
     }
 }
 
-/// An object's bytes: the first `items` of the pairs are coordinates, the rest is text.
-pub fn object(sym: i16, pairs: &[(i32, i32)], items: usize) -> Vec<u8> {
-    let mut bytes = vec![0; 32];
-    bytes[..2].copy_from_slice(&sym.to_le_bytes());
-    bytes[2] = 1 + (sym % 5) as u8;
-    bytes[4..6].copy_from_slice(&(items as u16).to_le_bytes());
-    bytes[6..8].copy_from_slice(&((pairs.len() - items) as u16).to_le_bytes());
-    for (x, y) in pairs {
-        bytes.extend((x << 8 | 1).to_le_bytes());
-        bytes.extend((y << 8 | 2).to_le_bytes());
-    }
-    bytes
-}
-
 /// Pairs near a place within a metre of the sheet's middle.
 fn pairs_near(random: &mut Random, count: usize) -> Vec<(i32, i32)> {
     let place = |random: &mut Random| random.below(200_001) as i32 - 100_000;
@@ -56,22 +46,17 @@ fn pairs_near(random: &mut Random, count: usize) -> Vec<(i32, i32)> {
 pub struct Map {
     pub bytes: Vec<u8>,
     pub blocks: Vec<usize>,
-    version: u16,
+    form: Form,
 }
 
 impl Map {
     /// An empty map of 48 bytes.
-    pub fn new(version: u16) -> Map {
-        let mut bytes = vec![0; 48];
-        let section: u16 = match version {
-            6 => 0,
-            7 => 7,
-            _ => 2,
-        };
-        for (at, number) in [(0, 3245), (2, section), (4, version)] {
+    pub fn new(form: Form) -> Map {
+        let mut bytes = vec![0; HEADER];
+        for (at, number) in [(0, 3245), (2, form.section()), (4, form.version)] {
             bytes[at..at + 2].copy_from_slice(&number.to_le_bytes());
         }
-        Map { bytes, blocks: Vec::new(), version }
+        Map { bytes, blocks: Vec::new(), form }
     }
 
     /// Puts a signed 32-bit number.
@@ -86,45 +71,30 @@ impl Map {
     }
 
     /// Lays an object; the answer is a slot for it.
-    fn lay_object(&mut self, object: &[u8]) -> [u8; 24] {
-        let word = |at: usize| u16::from_le_bytes([object[at], object[at + 1]]);
-        let items = &object[32..32 + 8 * word(4) as usize];
-        let side = |at: usize, most: bool| {
-            let sides = items.chunks(8).map(|p| i32::from_le_bytes(p[at..at + 4].try_into().unwrap()));
-            let side = if most { sides.max() } else { sides.min() };
-            side.unwrap() & !255
-        };
-        let pairs = (object.len() - 32) / 8;
-        let len = if self.version == 8 { pairs } else { object.len() };
-        let position = self.lay(object) as u32;
-        let mut slot = [0; 24];
-        for (i, side) in [side(0, false), side(4, false), side(0, true), side(4, true)].iter().enumerate() {
-            slot[4 * i..4 * i + 4].copy_from_slice(&side.to_le_bytes());
-        }
-        slot[16..20].copy_from_slice(&position.to_le_bytes());
-        slot[20..22].copy_from_slice(&(len as u16).to_le_bytes());
-        slot[22..24].copy_from_slice(&word(0).to_le_bytes());
-        slot
+    fn lay_object(&mut self, object: &[u8]) -> Vec<u8> {
+        let position = self.lay(object);
+        self.form.slot(object, position)
     }
 
     /// Lays objects of one to `most` pairs in at most `room` bytes.
-    fn lay_objects(&mut self, random: &mut Random, room: usize, most: usize) -> Vec<[u8; 24]> {
+    fn lay_objects(&mut self, random: &mut Random, room: usize, most: usize) -> Vec<Vec<u8>> {
         let mut slots = Vec::new();
         let end = self.bytes.len() + room;
-        while self.bytes.len() + 32 + 8 * most <= end {
+        let syms = if self.form.wide() { 900_000 } else { 30_000 };
+        while self.bytes.len() + self.form.object_size(most) <= end {
             let count = 1 + random.below(most);
             let pairs = pairs_near(random, count);
-            let sym = 1 + random.below(30_000) as i16;
-            slots.push(self.lay_object(&object(sym, &pairs, pairs.len())));
+            let sym = 1 + random.below(syms) as u32;
+            slots.push(self.lay_object(&self.form.object(sym, &pairs, pairs.len())));
         }
         slots
     }
 
     /// Lays a block of slots. It is in no chain yet.
-    fn lay_block(&mut self, slot: impl Fn(usize) -> [u8; 24]) -> usize {
+    fn lay_block<'a>(&mut self, mut slot: impl FnMut(usize) -> &'a [u8]) -> usize {
         let at = self.lay(&[0; 4]);
         (0..SLOTS).for_each(|i| {
-            self.lay(&slot(i));
+            self.lay(slot(i));
         });
         at
     }
@@ -143,12 +113,15 @@ impl Map {
     /// Gives an empty map one block, with an object in slot 0.
     pub fn hold(&mut self, object: &[u8]) {
         let slot = self.lay_object(object);
-        let block = self.lay_block(|i| if i == 0 { slot } else { [0; 24] });
+        let free = vec![0; slot.len()];
+        let block = self.lay_block(|i| if i == 0 { &slot } else { &free });
         self.chain(vec![block]);
     }
 
-    fn slot_place(&self, slot: usize) -> usize {
-        self.blocks[slot / SLOTS] + 4 + 24 * (slot % SLOTS)
+    fn slot(&mut self, slot: usize) -> &mut [u8] {
+        let size = self.form.slot_size();
+        let place = self.blocks[slot / SLOTS] + 4 + size * (slot % SLOTS);
+        &mut self.bytes[place..place + size]
     }
 
     pub fn slots(&self) -> usize {
@@ -156,22 +129,27 @@ impl Map {
     }
 
     pub fn free(&mut self, slot: usize) {
-        let place = self.slot_place(slot);
-        self.bytes[place..place + 24].fill(0);
+        self.slot(slot).fill(0);
     }
 
     pub fn erase(&mut self, slot: usize) {
-        let place = self.slot_place(slot);
-        self.bytes[place + 22..place + 24].fill(0);
+        if self.form.wide() {
+            self.slot(slot)[STATUS_AT] = DELETED;
+        } else {
+            self.slot(slot)[SYM_AT..SYM_AT + 2].fill(0);
+        }
     }
 
-    /// The bytes of a slot's object.
-    pub fn object_of(&self, slot: usize) -> Vec<u8> {
-        let place = self.slot_place(slot);
-        let position = u32::from_le_bytes(self.bytes[place + 16..place + 20].try_into().unwrap());
-        let len = u16::from_le_bytes([self.bytes[place + 20], self.bytes[place + 21]]) as usize;
-        let size = if self.version == 8 { 32 + 8 * len } else { len };
-        self.bytes[position as usize..position as usize + size].to_vec()
+    /// Hides a live slot of a map of 9 to 11, which stays live.
+    fn hide(&mut self, slot: usize) {
+        self.slot(slot)[STATUS_AT] = HIDDEN;
+    }
+
+    /// The bytes of a slot's object, in a map of 6 to 8.
+    pub fn object_of(&mut self, slot: usize) -> Vec<u8> {
+        let form = self.form;
+        let (position, size) = form.object_of(self.slot(slot));
+        self.bytes[position..position + size].to_vec()
     }
 
     /// The map in a buffer with this much room behind it, and its length.
@@ -184,40 +162,52 @@ impl Map {
 }
 
 /// Full blocks, every slot live, each after `room` bytes of objects, which its slots share in turn.
-pub fn full(version: u16, blocks: usize, room: usize) -> Map {
+pub fn full(form: Form, blocks: usize, room: usize) -> Map {
     let mut random = Random(blocks as u64);
-    let mut map = Map::new(version);
+    let mut map = Map::new(form);
     let mut laid = Vec::new();
     for _ in 0..blocks {
         let objects = map.lay_objects(&mut random, room, 4);
-        laid.push(map.lay_block(|i| objects[i % objects.len()]));
+        laid.push(map.lay_block(|i| &objects[i % objects.len()]));
     }
     map.chain(laid);
     map
 }
 
-/// Full blocks, every slot with an object of 40 bytes of its own, as adding one by one gives.
-pub fn own_objects(version: u16, blocks: usize) -> Map {
+/// Full blocks, every slot with an object of one pair of its own, as adding one by one gives.
+pub fn own_objects(form: Form, blocks: usize) -> Map {
     let mut random = Random(blocks as u64);
-    let mut map = Map::new(version);
+    let mut map = Map::new(form);
     let mut laid = Vec::new();
     for _ in 0..blocks {
-        let objects = map.lay_objects(&mut random, SLOTS * 40, 1);
-        laid.push(map.lay_block(|i| objects[i]));
+        let objects = map.lay_objects(&mut random, SLOTS * form.object_size(1), 1);
+        laid.push(map.lay_block(|i| &objects[i]));
     }
     map.chain(laid);
+    map
+}
+
+/// Full blocks of 9 to 11, every slot live. All of them share the objects before the first, at random: these
+/// have the room that the largest map leaves beside its blocks.
+pub fn packed(form: Form, blocks: usize) -> Map {
+    let mut random = Random(blocks as u64);
+    let mut map = Map::new(form);
+    let room = MOST - HEADER - MOST_WIDE_BLOCKS * form.block_size();
+    let objects = map.lay_objects(&mut random, room, 4);
+    map.bytes.resize(HEADER + room, 0);
+    let mut any = |_| objects[random.below(objects.len())].as_slice();
+    let blocks = (0..blocks).map(|_| map.lay_block(&mut any)).collect();
+    map.chain(blocks);
     map
 }
 
 /// As `full`, with the chain in random order, and slots whose objects lie anywhere.
-pub fn scrambled(version: u16, blocks: usize, room: usize) -> Map {
+pub fn scrambled(form: Form, blocks: usize, room: usize) -> Map {
     let mut random = Random(7);
-    let mut map = full(version, blocks, room);
-    let stored = |slot| map.bytes[map.slot_place(slot)..][..24].try_into().unwrap();
-    let all: Vec<[u8; 24]> = (0..map.slots()).map(stored).collect();
+    let mut map = full(form, blocks, room);
+    let all: Vec<Vec<u8>> = (0..map.slots()).map(|slot| map.slot(slot).to_vec()).collect();
     for slot in 0..map.slots() {
-        let place = map.slot_place(slot);
-        map.bytes[place..place + 24].copy_from_slice(&all[random.below(all.len())]);
+        map.slot(slot).copy_from_slice(&all[random.below(all.len())]);
     }
     let mut blocks = map.blocks.clone();
     random.shuffle(&mut blocks);
@@ -225,40 +215,42 @@ pub fn scrambled(version: u16, blocks: usize, room: usize) -> Map {
     map
 }
 
-/// As `full`, with slots that are live, erased or free at random.
-pub fn mixed(version: u16, blocks: usize, room: usize) -> Map {
+/// A full map whose slots became live, erased or free at random, and in 9 to 11 hidden as well.
+pub fn mixed(mut map: Map) -> Map {
     let mut random = Random(13);
-    let mut map = full(version, blocks, room);
+    let states = if map.form.wide() { 4 } else { 3 };
     for slot in 0..map.slots() {
-        match random.below(3) {
+        match random.below(states) {
             0 => map.free(slot),
             1 => map.erase(slot),
-            _ => {}
+            2 => {}
+            _ => map.hide(slot),
         }
     }
     map
 }
 
 /// As many full blocks as a map can hold beside one object of so many pairs, which all slots share.
-pub fn shared(pairs: usize) -> Map {
+pub fn shared(form: Form, pairs: usize) -> Map {
     let mut random = Random(3);
-    let mut map = Map::new(8);
+    let mut map = Map::new(form);
     let pairs = pairs_near(&mut random, pairs);
-    let slot = map.lay_object(&object(101, &pairs, pairs.len()));
-    let count = (MOST - map.bytes.len()) / BLOCK;
-    let blocks = (0..count).map(|_| map.lay_block(|_| slot)).collect();
+    let slot = map.lay_object(&form.object(101, &pairs, pairs.len()));
+    let count = (MOST - map.bytes.len()) / form.block_size();
+    let blocks = (0..count).map(|_| map.lay_block(|_| &slot)).collect();
     map.chain(blocks);
     map
 }
 
 /// Full index blocks and then full symbol blocks, whose entries point to records of `size` bytes.
 /// The records start 1,000 bytes apart, so that they share bytes with each other.
-pub fn symbols(index_blocks: usize, symbol_blocks: usize, size: i16) -> Map {
+pub fn symbols(form: Form, index_blocks: usize, symbol_blocks: usize, size: usize) -> Map {
     let mut random = Random(5);
-    let mut map = full(8, index_blocks, 2_200);
-    let records = map.lay(&vec![0; 900_000 + size as usize]);
+    let mut map = full(form, index_blocks, 2_200);
+    let records = map.lay(&vec![0; 900_000 + size]);
+    let size = form.symbol_size(size);
     for i in 0..900 {
-        map.bytes[records + 1_000 * i..][..2].copy_from_slice(&size.to_le_bytes());
+        map.bytes[records + 1_000 * i..][..size.len()].copy_from_slice(&size);
     }
     let mut link = 8;
     for _ in 0..symbol_blocks {
@@ -275,8 +267,8 @@ pub fn symbols(index_blocks: usize, symbol_blocks: usize, size: i16) -> Map {
 /// One block with so many of the largest objects, and a full symbol block.
 pub fn large_objects(count: usize) -> Map {
     let pairs: Vec<(i32, i32)> = (0..32_768).map(|i| (i, -i)).collect();
-    let largest = object(101, &pairs, pairs.len());
-    let mut map = Map::new(8);
+    let largest = OCAD_8.object(101, &pairs, pairs.len());
+    let mut map = Map::new(OCAD_8);
     (0..count).for_each(|_| map.hold(&largest));
     let mut record = vec![0; 348];
     record[..2].copy_from_slice(&348i16.to_le_bytes());

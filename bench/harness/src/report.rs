@@ -2,6 +2,7 @@
 
 use crate::cases::{Bench, GROWS, GROWTH, HALF_WINDOW, SMALL_WINDOW};
 use crate::measure::{Effort, Row};
+use crate::wide::{WIDE_GROWS, WIDE_GROWTH, WIDE_HALF};
 use std::fmt::Write;
 
 /// Ratios above this are named in the summary.
@@ -100,7 +101,9 @@ pub fn page(bench: &Bench) -> String {
         .replace("{{tables}}", &tables(&bench.rows))
         .replace("{{small}}", &count(SMALL_WINDOW))
         .replace("{{half}}", &count(HALF_WINDOW))
-        .replace("{{growth}}", &growth(&bench.rows))
+        .replace("{{wide half}}", &count(WIDE_HALF))
+        .replace("{{growth}}", &growth(&grown(&bench.rows, GROWS, &GROWTH)))
+        .replace("{{wide growth}}", &growth(&grown(&bench.rows, WIDE_GROWS, &WIDE_GROWTH)))
 }
 
 /// The processor in general words.
@@ -132,16 +135,15 @@ fn tables(rows: &[Row]) -> String {
     text
 }
 
-/// The rows of the growth, with their numbers of blocks.
-pub fn grown(rows: &[Row]) -> Vec<(usize, &Row)> {
-    GROWTH.into_iter().zip(rows.iter().filter(|row| row.group == GROWS)).collect()
+/// The rows of a growth, with their numbers of blocks.
+pub fn grown<'a>(rows: &'a [Row], group: &str, sizes: &[usize]) -> Vec<(usize, &'a Row)> {
+    sizes.iter().copied().zip(rows.iter().filter(|row| row.group == group)).collect()
 }
 
-fn growth(rows: &[Row]) -> String {
-    let grown = grown(rows);
+fn growth(grown: &[(usize, &Row)]) -> String {
     let mut text =
         String::from("| blocks | slots | library, a slot | baseline, a slot |\n|---:|---:|---:|---:|\n");
-    for (blocks, row) in &grown {
+    for (blocks, row) in grown {
         let slots = blocks * crate::maps::SLOTS;
         let each = |ns: f64| time(ns / slots as f64);
         let (library, baseline) = (each(row.library.median), each(row.baseline.median));
@@ -151,11 +153,11 @@ fn growth(rows: &[Row]) -> String {
     let (few, many) = (first.1, last.1);
     write!(
         text,
-        "\nFrom {} to {} blocks, {} times as many, the library's time grows {:.1} times and the \
+        "\nFrom {} to {} blocks, {:.1} times as many, the library's time grows {:.1} times and the \
          baseline's {:.1} times.",
         first.0,
         grouped(last.0),
-        last.0 / first.0,
+        last.0 as f64 / first.0 as f64,
         many.library.median / few.library.median,
         many.baseline.median / few.baseline.median
     )
