@@ -14,15 +14,14 @@ use records::is_wide;
 ghost use mathlib.Core.Path.{_≡_};
 ghost use Prim.Native.Nat.{_+_, _*_, _≤_, _<_};
 ghost use lib.ListN.{length};
-ghost use Rattle.records.specs.Sizes.{headerSize, indexPage, symbolBlockSize, symbolPage, entrySize, smallMap, middleMap, blockCells};
-ghost use Rattle.records.specs.Headers.{indexHead};
+ghost use Rattle.records.specs.Sizes.{symbolBlockSize, symbolPage, entrySize, smallMap, middleMap, blockCells};
 ghost use Rattle.chain.specs.Chains.{taken};
 ghost use Rattle.chain.specs.Cells.{cellIn};
-ghost use Rattle.chain.specs.Tables.{Empty, EndsTable};
+ghost use Rattle.chain.specs.Tables.{Empty};
 ghost use Rattle.chain.specs.declared.Walk.the-variants.{Blocks};
 ghost use Rattle.chain.specs.Indexed.{Indexed};
 ghost use Rattle.judge.specs.Rules.{familyFor, familyOf, symbolRuleOf};
-ghost use Rattle.accept.specs.Opens.{entryFault};
+ghost use Rattle.accept.specs.Opens.{entryFault, Open};
 ghost use Rattle.accept.specs.Verdicts.{cellsJudged, entriesJudged, symbolsJudged};
 
 // 6, of one symbol block: the first entry at fault.
@@ -49,8 +48,7 @@ fn judge_block_entries(m: &[u8], used: usize, wide: bool, index: &[u32], block: 
 
 // 6, of the first k symbol blocks: the first entry at fault.
 fn judge_entries(m: &[u8], used: usize, index: &[u32], n: usize, k: usize) -> JudgedMap
-    requires { ⌜ (headerSize ≤ used) × Indexed (familyOf (now m) .block) (now m) used (now index) × EndsTable (familyOf (now m) .block) indexHead indexPage (now m) n (now index)
-        × (k ≡ taken (symbolRuleOf (familyOf (now m)) (now m) n) (now m) used) ⌝ }
+    requires { ⌜ Open (now m) used n (now index) × (k ≡ taken (symbolRuleOf (familyOf (now m)) (now m) n) (now m) used) ⌝ }
     ensures { λ r. ⌜ r ≡ entriesJudged (now (m .entry)) used n k ⌝ }
 {
     let wide = is_wide(u16_at(m, Header::VERSION));
@@ -72,8 +70,7 @@ fn judge_entries(m: &[u8], used: usize, index: &[u32], n: usize, k: usize) -> Ju
 
 // 6: the symbol blocks and their entries. A table for the blocks is lent, empty before.
 fn judge_symbol_blocks(m: &[u8], used: usize, index: &[u32], n: usize, t: &mut [u32]) -> JudgedMap
-    requires { ⌜ (headerSize ≤ used) × Indexed (familyOf (now m) .block) (now m) used (now index) × EndsTable (familyOf (now m) .block) indexHead indexPage (now m) n (now index)
-        × (used + symbolPage ≤ length (now t) * symbolPage) × Empty (now t) ⌝ }
+    requires { ⌜ Open (now m) used n (now index) × (used + symbolPage ≤ length (now t) * symbolPage) × Empty (now t) ⌝ }
     ensures { λ r. ⌜ r ≡ symbolsJudged (now (m .entry)) used n ⌝ }
 {
     let block = block_size(u16_at(m, Header::VERSION));
@@ -95,8 +92,7 @@ fn judge_symbol_blocks(m: &[u8], used: usize, index: &[u32], n: usize, t: &mut [
 
 // 6, of a small map. Each size of the table stands in a function of its own: so the compiler gives them the same room.
 fn small_symbols(m: &[u8], used: usize, index: &[u32], n: usize) -> JudgedMap
-    requires { ⌜ (headerSize ≤ used) × (used ≤ smallMap) × Indexed (familyOf (now m) .block) (now m) used (now index)
-        × EndsTable (familyOf (now m) .block) indexHead indexPage (now m) n (now index) ⌝ }
+    requires { ⌜ Open (now m) used n (now index) × (used ≤ smallMap) ⌝ }
     ensures { λ r. ⌜ r ≡ symbolsJudged (now (m .entry)) used n ⌝ }
 {
     let mut t = [0u32; SymbolBlock::SMALL_TABLE];
@@ -105,8 +101,7 @@ fn small_symbols(m: &[u8], used: usize, index: &[u32], n: usize) -> JudgedMap
 
 // 6, of a map of middle size.
 fn middle_symbols(m: &[u8], used: usize, index: &[u32], n: usize) -> JudgedMap
-    requires { ⌜ (headerSize ≤ used) × (used ≤ middleMap) × Indexed (familyOf (now m) .block) (now m) used (now index)
-        × EndsTable (familyOf (now m) .block) indexHead indexPage (now m) n (now index) ⌝ }
+    requires { ⌜ Open (now m) used n (now index) × (used ≤ middleMap) ⌝ }
     ensures { λ r. ⌜ r ≡ symbolsJudged (now (m .entry)) used n ⌝ }
 {
     let mut t = [0u32; SymbolBlock::MIDDLE_TABLE];
@@ -115,7 +110,7 @@ fn middle_symbols(m: &[u8], used: usize, index: &[u32], n: usize) -> JudgedMap
 
 // 6, of any map.
 fn large_symbols(m: &[u8], used: usize, index: &[u32], n: usize) -> JudgedMap
-    requires { ⌜ (headerSize ≤ used) × Indexed (familyOf (now m) .block) (now m) used (now index) × EndsTable (familyOf (now m) .block) indexHead indexPage (now m) n (now index) ⌝ }
+    requires { ⌜ Open (now m) used n (now index) ⌝ }
     ensures { λ r. ⌜ r ≡ symbolsJudged (now (m .entry)) used n ⌝ }
 {
     let mut t = [0u32; SymbolBlock::TABLE];
@@ -124,7 +119,7 @@ fn large_symbols(m: &[u8], used: usize, index: &[u32], n: usize) -> JudgedMap
 
 // 6, with a table as large as the map needs: none where there are no symbol blocks.
 pub fn judge_symbols(m: &[u8], used: usize, index: &[u32], n: usize) -> JudgedMap
-    requires { ⌜ (headerSize ≤ used) × Indexed (familyOf (now m) .block) (now m) used (now index) × EndsTable (familyOf (now m) .block) indexHead indexPage (now m) n (now index) ⌝ }
+    requires { ⌜ Open (now m) used n (now index) ⌝ }
     ensures { λ r. ⌜ r ≡ symbolsJudged (now (m .entry)) used n ⌝ }
 {
     if u32_at(m, Header::SYMBOLS) == 0 {

@@ -84,7 +84,8 @@ pub fn place(v: Verdict) -> u32
 // 6, of a map whose index blocks are good. Their table is filled first.
 fn open_symbols(m: &[u8], used: usize, index: &mut [u32], n: usize) -> OpenedMap
     requires { ⌜ (headerSize ≤ used) × (used ≤ mapLimit) × (used ≤ length (now m)) × (used + indexPage ≤ length (now index) * indexPage)
-        × (walked (indexRuleOf (familyOf (now m)) (now m)) (now m) used ≡ Blocks n) × Placed indexPage (now index) × Table indexHead indexPage (now m) n (now index) ⌝ }
+        × (walked (indexRuleOf (familyOf (now m)) (now m)) (now m) used ≡ Blocks n) × Placed indexPage (now index)
+        × Table indexHead indexPage (now m) n (now index) ⌝ }
     ensures { λ r. ⌜ (r ≡ openedAfter (now (m .entry)) used (Blocks n)) × Opens (now (m .entry)) used (now (index .exit)) r ⌝ }
 {
     let block = block_size(u16_at(m, Header::VERSION));

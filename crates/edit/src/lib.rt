@@ -95,8 +95,8 @@ pub fn refused(number: u32) -> EditAnswer
     EditAnswer::Refused { number, place: 0 }
 }
 
-// How an edit starts: refused by the check, for its layout or for its journal; or its number is held, by a record of this kind and slot; or it is new, in a map of so many
-// index blocks and a journal of so many records, with its first free slot.
+// How an edit starts: refused by the check, for its layout or for its journal; or its number is held, by a record of this kind and slot; or it is new, in a
+// map of so many index blocks and a journal of so many records, with its first free slot.
 pub enum EditStart {
     Refused {
         number: u32,

@@ -1,5 +1,5 @@
-// Whether one thing in a map is as document 01 wants it: setup and info, a live slot of 6 to 8 with its object, a symbol entry with its record; and the kinds of
-// chain.
+// Whether one thing in a map is as document 01 wants it: setup and info, a live slot of 6 to 8 with its object, a symbol entry with its record; and the
+// kinds of chain.
 use chain::Kind;
 use chain::meets_block;
 use numbers::at_most;

@@ -13,8 +13,7 @@ use Rattle.chain.proofs.Filling.{fill-filled, fill-table, entry-most, entry-non
 use Rattle.judge.specs.Judging.{versionOf}
 use Rattle.judge.specs.Rules.{familyIn, familyOf, indexRuleOf}
 use Rattle.judge.proofs.Rules.{Sized, sized}
-use Rattle.chain.specs.Indexed.{Indexed}
-use Rattle.accept.specs.Opens.{openedAfter}
+use Rattle.accept.specs.Opens.{openedAfter, Open}
 use Rattle.accept.proofs.open_symbols.Statement.{statement}
 use Rattle.accept.proofs.open_symbols.Tie as tie
 
@@ -54,15 +53,16 @@ filled c = let s = start c in fill-filled (s .pre .5) (carried c) (none s) (omeg
 table : (c : tie.After-fill) → let s = start c in EndsTable (familyOf (now (s .args .m)) .block) indexHead indexPage (now (s .args .m)) (s .args .n) (c .fill .last .0)
 table c = let s = start c in fill-table (s .pre .5) (carried c) (none s) (s .pre .6)
 
-indexed : (c : tie.After-fill) → let s = start c in Indexed (familyOf (now (s .args .m)) .block) (now (s .args .m)) (s .args .used) (c .fill .last .0)
-indexed c =
+-- so the map is open
+opened : (c : tie.After-fill) → let s = start c in Open (now (s .args .m)) (s .args .used) (s .args .n) (c .fill .last .0)
+opened c =
     let s = start c in
-    record { limit = s .pre .1; room = s .pre .2; wide = omega (arith, s .pre .3, c .fill .kept .0); filled = filled c }
-
-judge-symbols-requires : tie.Need-judge-symbols-requires
-judge-symbols-requires c κs =
-    let f = c .before .before .before in
-    (start f .pre .0, indexed f, table f)
+    record {
+      low = s .pre .0;
+      indexed = record { limit = s .pre .1; room = s .pre .2; wide = omega (arith, s .pre .3, c .fill .kept .0); filled = filled c };
+      index = s .pre .4;
+      table = table c;
+    }
 
 returns : tie.Need-returns
 unfolding openedAfter
@@ -72,16 +72,7 @@ returns-2 : tie.Need-returns-2
 unfolding openedAfter
 returns-2 c =
     let k = c .before .before in
-    let f = k .before .before .before .before in
-    let s = start f in (
-      rw (← k .judge-symbols .ensures, c .enum-told .given .1),
-      record {
-        low = s .pre .0;
-        indexed = indexed f;
-        index = s .pre .4;
-        table = table f;
-      },
-    )
+    (rw (← k .judge-symbols .ensures, c .enum-told .given .1), opened (k .before .before .before .before))
 
 pub open-symbols-spec : {M : Type 1} → statement M
 open-symbols-spec =
@@ -93,7 +84,7 @@ open-symbols-spec =
     (λ c. search needs)
     (λ c. let z = c .before in omega (arith, size z, bounds (z .before .before .before .before) .most))
     fill-requires
-    judge-symbols-requires
+    (λ c κs. opened (c .before .before .before))
     (λ c. search needs)
     (λ c. search needs)
     (λ c. search needs)

@@ -40,13 +40,13 @@ walk-chain-requires c κs =
     let k = c .before in
     let s = k .before .before .before .before .before .before in
     let m = now (s .args .m) in
-    (s .pre .1 .room, symbol-ready (familyOf m) (kind k) (sized (isWide (versionOf m))) (s .pre .0) (s .pre .1) (s .pre .3), s .pre .4)
+    (s .pre .0 .indexed .room, symbol-ready (familyOf m) (kind k) (sized (isWide (versionOf m))) (s .pre .0 .low) (s .pre .0 .indexed) (s .pre .1), s .pre .2)
 
 -- the walk's answer, by the rule, and its two cases
 walk : (c : tie.After-walk-chain) → let a = start c .args in walked (symbolRuleOf (familyOf (now (a .m))) (now (a .m)) (a .n)) (now (a .m)) (a .used) ≡ c .walk-chain .result
 walk c =
     let s = start c in
-    walk-by (s .args .used) (symbol-rule (familyOf (now (s .args .m))) (kind (c .before .before)) (s .pre .2)) refl (c .walk-chain .ensures) .0
+    walk-by (s .args .used) (symbol-rule (familyOf (now (s .args .m))) (kind (c .before .before)) (s .pre .0 .table)) refl (c .walk-chain .ensures) .0
 
 whole : (c : tie.After-w) → let a = start-whole c .args in walked (symbolRuleOf (familyOf (now (a .m))) (now (a .m)) (a .n)) (now (a .m)) (a .used) ≡ Blocks (c .w .given .0 .0)
 whole c = walk (c .before .before .before .before) ∙ c .w .given .1
@@ -58,13 +58,13 @@ judge-entries-requires : tie.Need-judge-entries-requires
 judge-entries-requires c κs =
     let w = c .before in
     let s = start-whole w in
-    (s .pre .0, s .pre .1, s .pre .2, taken-of (symbolRuleOf (familyOf (now (s .args .m))) (now (s .args .m)) (s .args .n)) (now (s .args .m)) (s .args .used) (Blocks (w .w .given .0 .0)) (whole w))
+    (s .pre .0, taken-of (symbolRuleOf (familyOf (now (s .args .m))) (now (s .args .m)) (s .args .n)) (now (s .args .m)) (s .args .used) (Blocks (w .w .given .0 .0)) (whole w))
 
 judge-entries-requires-2 : tie.Need-judge-entries-requires-2
 judge-entries-requires-2 c κs =
     let w = c .before in
     let s = start-fault w in
-    (s .pre .0, s .pre .1, s .pre .2, taken-of (symbolRuleOf (familyOf (now (s .args .m))) (now (s .args .m)) (s .args .n)) (now (s .args .m)) (s .args .used) (Fault (w .w2 .given .0 .0) (w .w2 .given .0 .1 .0)) (fault w))
+    (s .pre .0, taken-of (symbolRuleOf (familyOf (now (s .args .m))) (now (s .args .m)) (s .args .n)) (now (s .args .m)) (s .args .used) (Fault (w .w2 .given .0 .0) (w .w2 .given .0 .1 .0)) (fault w))
 
 cast-t20 : tie.Need-cast-t20
 cast-t20 c =
@@ -97,7 +97,7 @@ pub judge-symbol-blocks-spec : {M : Type 1} → statement M
 judge-symbol-blocks-spec =
     tie.close
     (tie.spec
-    (λ c κs. omega arith)
+    (λ c κs. let s = c .before .before .before in omega (arith, s .pre .0 .low, s .pre .0 .indexed .room))
     (λ c κs. search needs)
     (λ c κs. search needs)
     walk-chain-requires

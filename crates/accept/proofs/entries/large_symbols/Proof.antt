@@ -7,8 +7,8 @@ use Rattle.accept.proofs.entries.large_symbols.Tie as tie
 
 judge-symbol-blocks-requires : tie.Need-judge-symbol-blocks-requires
 judge-symbol-blocks-requires c κs =
-    let pre = c .before .before .before .pre in
-    (pre .0, pre .1, pre .2, omega (arith, pre .1 .limit), zeros 16385)
+    let o = c .before .before .before .pre in
+    (o, omega (arith, o .indexed .limit), zeros 16385)
 
 pub large-symbols-spec : {M : Type 1} → statement M
 large-symbols-spec = tie.close (tie.spec (λ c. search needs) judge-symbol-blocks-requires (λ c. search needs))

@@ -8,7 +8,7 @@ use Rattle.accept.proofs.entries.small_symbols.Tie as tie
 judge-symbol-blocks-requires : tie.Need-judge-symbol-blocks-requires
 judge-symbol-blocks-requires c κs =
     let pre = c .before .before .before .pre in
-    (pre .0, pre .2, pre .3, omega (arith, pre .1), zeros 1025)
+    (pre .0, omega (arith, pre .1), zeros 1025)
 
 pub small-symbols-spec : {M : Type 1} → statement M
 small-symbols-spec = tie.close (tie.spec (λ c. search needs) judge-symbol-blocks-requires (λ c. search needs))
