@@ -133,18 +133,21 @@ pub fn checks_in_turn(group: &'static str, maps: Vec<(String, Lent)>, effort: &E
     let mut elsewhere = vec![0u8; ELSEWHERE];
     let mut samples = vec![[Vec::new(), Vec::new()]; maps.len()];
     let mut maps = maps;
+    let mut order = Random(1);
     let start = Instant::now();
     let rounds = effort.least_pairs..effort.most_pairs;
     while samples[0][0].len() < rounds.start
         || (samples[0][0].len() < rounds.end && start.elapsed() < effort.budget * maps.len() as u32)
     {
         for ((_, lent), samples) in maps.iter_mut().zip(&mut samples) {
-            for (side, samples) in SIDES.into_iter().zip(samples) {
+            // with the same code on both sides the second is quicker, so who is first is drawn
+            let first = order.below(2);
+            for who in [first, 1 - first] {
                 black_box(&mut elsewhere)
                     .iter_mut()
                     .step_by(64)
                     .for_each(|byte| *byte = byte.wrapping_add(1));
-                samples.push(timed(side, &Call::Check, lent, 1));
+                samples[who].push(timed(SIDES[who], &Call::Check, lent, 1));
             }
         }
     }
