@@ -16,7 +16,7 @@ use mathlib.Core.Path.{_≡_}
 use mathlib.Core.List.{List}
 use lib.Dec.{ltb}
 use Rattle.chain.specs.Cells.{cellIn}
-use Rattle.records.specs.Sizes.{headerSize, slotSize, indexPage}
+use Rattle.records.specs.Sizes.{headerSize, slotSize}
 use Rattle.records.specs.Headers.{indexHead, isWide}
 use Rattle.chain.specs.declared.Walk.{Walk}
 use Rattle.chain.specs.declared.Walk.the-variants.{Blocks, Fault}
@@ -59,9 +59,9 @@ slotFault v m used t = familyIn v .slotAtFault (endsMeet (familyIn v .block) t) 
 
 pub record OpenOf (f : Family) (m : List ℕ) (used n : ℕ) (t : List ℕ) : Type 0 where
   pub low : headerSize ≤ used
-  pub indexed : Indexed (f .block) m used t
+  pub indexed : Indexed (f .block) (f .page) m used t
   pub index : walked (indexRuleOf f m) m used ≡ Blocks n
-  pub table : EndsTable (f .block) indexHead indexPage m n t
+  pub table : EndsTable (f .block) indexHead (f .page) m n t
 
 abbrev pub Open : List ℕ → ℕ → ℕ → List ℕ → Type 0
 Open m = OpenOf (familyOf m) m

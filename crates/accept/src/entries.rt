@@ -2,7 +2,6 @@
 use super::JudgedMap;
 use chain::Walk;
 use chain::walk_chain;
-use judge::block_size;
 use judge::entry_at_fault;
 use judge::symbol_kind;
 use numbers::u16_at;
@@ -26,7 +25,7 @@ ghost use Rattle.accept.specs.Verdicts.{cellsJudged, entriesJudged, symb
 
 // 6, of one symbol block: the first entry at fault.
 fn judge_block_entries(m: &[u8], used: usize, wide: bool, index: &[u32], block: usize) -> JudgedMap
-    requires { ⌜ (block + symbolBlockSize ≤ used) × Indexed (familyFor wide .block) (now m) used (now index) ⌝ }
+    requires { ⌜ (block + symbolBlockSize ≤ used) × Indexed (familyFor wide .block) (familyFor wide .page) (now m) used (now index) ⌝ }
     ensures { λ r. ⌜ r
         ≡ cellsJudged 6 (λ e. entryFault wide (now (m .entry)) used (now (index .entry)) (cellIn block entrySize e)) (cellIn block entrySize) blockCells ⌝ }
 {
@@ -73,8 +72,8 @@ fn judge_symbol_blocks(m: &[u8], used: usize, index: &[u32], n: usize, t: &mut [
     requires { ⌜ Open (now m) used n (now index) × (used + symbolPage ≤ length (now t) * symbolPage) × Empty (now t) ⌝ }
     ensures { λ r. ⌜ r ≡ symbolsJudged (now (m .entry)) used n ⌝ }
 {
-    let block = block_size(u16_at(m, Header::VERSION));
-    let w = walk_chain(m, used, symbol_kind(block), index, t);
+    let kind = symbol_kind(u16_at(m, Header::VERSION));
+    let w = walk_chain(m, used, kind, index, t);
     match w {
         Walk::Blocks(k) => judge_entries(m, used, index, n, k),
         Walk::Fault { place, taken } => {

@@ -11,6 +11,7 @@ use entries::judge_symbols;
 use fields::judge_header;
 use judge::block_size;
 use judge::index_kind;
+use judge::page_size;
 use live::judge_slots;
 use numbers::u16_at;
 use numbers::u32_at;
@@ -84,12 +85,14 @@ pub fn place(v: Verdict) -> u32
 // 6, of a map whose index blocks are good. Their table is filled first.
 fn open_symbols(m: &[u8], used: usize, index: &mut [u32], n: usize) -> OpenedMap
     requires { ⌜ (headerSize ≤ used) × (used ≤ mapLimit) × (used ≤ length (now m)) × (used + indexPage ≤ length (now index) * indexPage)
-        × (walked (indexRuleOf (familyOf (now m)) (now m)) (now m) used ≡ Blocks n) × Placed indexPage (now index)
-        × Table indexHead indexPage (now m) n (now index) ⌝ }
+        × (walked (indexRuleOf (familyOf (now m)) (now m)) (now m) used ≡ Blocks n) × Placed (familyOf (now m) .page) (now index)
+        × Table indexHead (familyOf (now m) .page) (now m) n (now index) ⌝ }
     ensures { λ r. ⌜ (r ≡ openedAfter (now (m .entry)) used (Blocks n)) × Opens (now (m .entry)) used (now (index .exit)) r ⌝ }
 {
-    let block = block_size(u16_at(m, Header::VERSION));
-    fill(index, (used - 1) / IndexBlock::PAGE + 2, block as u32);
+    let version = u16_at(m, Header::VERSION);
+    let page = page_size(version);
+    let block = block_size(version);
+    fill(index, (used - 1) / page + 2, block as u32);
     let symbols = judge_symbols(m, used, index, n);
     match symbols {
         JudgedMap::Bad { number, place } => OpenedMap::Refused { number, place },

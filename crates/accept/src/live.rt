@@ -11,7 +11,7 @@ ghost use mathlib.Core.Path.{_≡_};
 ghost use mathlib.Core.Bool.{false};
 ghost use Prim.Native.Nat.{_+_, _*_, _≤_, _<_};
 ghost use Rattle.numbers.specs.Below.{first};
-ghost use Rattle.records.specs.Sizes.{indexBlockSize, slotSize, blockCells};
+ghost use Rattle.records.specs.Sizes.{indexBlockSize, indexPage, slotSize, blockCells};
 ghost use Rattle.chain.specs.Cells.{cellIn};
 ghost use Rattle.chain.specs.Tables.{endsMeet};
 ghost use Rattle.accept.specs.declared.Verdict.the-variants.{Accepted};
@@ -41,7 +41,7 @@ fn first_free(is: bool, free: usize, s: usize) -> usize
 
 // 7, of one index block: the slots in their order, up to the first at fault. The first free slot is told where none is at fault.
 fn judge_block_slots(m: &[u8], used: usize, version: u16, index: &[u32], block: usize) -> Seen
-    requires { ⌜ (block + indexBlockSize ≤ used) × Indexed indexBlockSize (now m) used (now index) ⌝ }
+    requires { ⌜ (block + indexBlockSize ≤ used) × Indexed indexBlockSize indexPage (now m) used (now index) ⌝ }
     ensures { λ r. ⌜ (r .bad
         ≡ first (λ j. badSlot (endsMeet indexBlockSize (now (index .entry))) (now (m .entry)) used version (cellIn block slotSize j)) blockCells)
         × (r .bad ≡ blockCells → r .free ≡ first (freeIn (now (m .entry)) block) blockCells) ⌝ }

@@ -8,7 +8,7 @@ use wide::WideSlot;
 use wide::wide_bad_slot;
 ghost use mathlib.Core.Path.{_≡_};
 ghost use Prim.Native.Nat.{_+_, _*_, _≤_, _<_};
-ghost use Rattle.records.specs.Sizes.{wideBlockSize, wideSlotSize, blockCells};
+ghost use Rattle.records.specs.Sizes.{wideBlockSize, widePage, wideSlotSize, blockCells};
 ghost use Rattle.chain.specs.Cells.{cellIn};
 ghost use Rattle.chain.specs.Tables.{endsMeet};
 ghost use Rattle.chain.specs.Indexed.{Indexed};
@@ -19,7 +19,7 @@ ghost use Rattle.accept.specs.Verdicts.{cellsJudged, slotsJudgedOf};
 
 // 7, of one index block: the first slot at fault.
 fn judge_wide_block(m: &[u8], used: usize, index: &[u32], block: usize) -> JudgedMap
-    requires { ⌜ (block + wideBlockSize ≤ used) × Indexed wideBlockSize (now m) used (now index) ⌝ }
+    requires { ⌜ (block + wideBlockSize ≤ used) × Indexed wideBlockSize widePage (now m) used (now index) ⌝ }
     ensures { λ r. ⌜ r
         ≡ cellsJudged 7 (λ j. wideBadSlot (endsMeet wideBlockSize (now (index .entry))) (now (m .entry)) used (cellIn block wideSlotSize j))
         (cellIn block wideSlotSize) blockCells ⌝ }

@@ -45,7 +45,7 @@ pub enum NewSym {
 
 // The Sym that reinstates an erased slot.
 fn sym_to_reinstate(m: &[u8], used: usize, index: &[u32], t: Slot) -> NewSym
-    requires { ⌜ (headerSize ≤ used) × Indexed indexBlockSize (now m) used (now index) × (t .len ≡ 0 → ⊥) ⌝ }
+    requires { ⌜ (headerSize ≤ used) × Indexed indexBlockSize indexPage (now m) used (now index) × (t .len ≡ 0 → ⊥) ⌝ }
     ensures { λ r. ⌜ r ≡ symToReinstate (endsMeet indexBlockSize (now (index .entry))) (now (m .entry)) used t ⌝ }
 {
     let at = t.position as usize;

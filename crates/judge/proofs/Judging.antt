@@ -13,7 +13,7 @@ use lib.Seq.{getD-take}
 use borrow.Author.Tests.{not-true, not-false, eqb-true, eqb-false, eq-eqb, ne-eqb, leb-true, leb-false, le-leb, lt-leb}
 use Rattle.numbers.specs.Bytes.{u16At}
 use Rattle.numbers.proofs.Bytes.{leAt-part, leAt-drop}
-use Rattle.records.specs.Sizes.{indexPage, objectHeaderSize, objectMost}
+use Rattle.records.specs.Sizes.{objectHeaderSize, objectMost}
 use Rattle.records.specs.Headers.{indexHead}
 use Rattle.numbers.proofs.Below.{never}
 use Rattle.numbers.proofs.Coordinates.{lt-or-ge}
@@ -34,7 +34,7 @@ pub passes : {r b : Bool} → r ≡ b → not r ≡ false → b ≡ true
 passes {r} e t = sym e ∙ not-false r t
 
 -- the table's test of a range is the chain's
-pub same-touch : (f : Family) {m : List ℕ} {n : ℕ} {t : List ℕ} → EndsTable (f .block) indexHead indexPage m n t → endsMeet (f .block) t ≡ touchesOf f m n
+pub same-touch : (f : Family) {m : List ℕ} {n : ℕ} {t : List ℕ} → EndsTable (f .block) indexHead (f .page) m n t → endsMeet (f .block) t ≡ touchesOf f m n
 same-touch f w = fun-ext (λ p. fun-ext (λ len. table-meets (w .table) (f .block) p len))
 
 -- an object's header, read in a part that has it

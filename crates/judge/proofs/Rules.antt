@@ -1,6 +1,6 @@
 -- The laws of the two layouts and the two kinds of chain: how large a block can be; as the code hands a kind to the walk, it is the rule of specs/; what the walk
 -- needs of it; where a link can stand; and how many index blocks there are at most. Assumes nothing.
-use Prim.Native.Nat.{ℕ, zero, suc, _+_, _*_, _≤_, _<_}
+use Prim.Native.Nat.{ℕ, zero, suc, _+_, _-_, _*_, _/_, _≤_, _<_}
 use mathlib.Core.Bool.{Bool, true, false}
 use mathlib.Core.Path.{_≡_, refl, sym, ap, _∙_, subst}
 use mathlib.Core.List.{List}
@@ -31,11 +31,27 @@ use Rattle.judge.proofs.Judging.{same-touch}
 pub record Sized (f : Family) : Type 0 where
   pub least : indexBlockSize ≤ f .block
   pub most : f .block ≤ wideBlockSize
+  pub page-least : indexPage ≤ f .page
+  pub page-most : f .page ≤ f .block
   pub slot-most : f .slot ≤ wideSlotSize
 
 pub sized : (b : Bool) → Sized (familyFor b)
-sized true = record { least = omega arith; most = omega arith; slot-most = omega arith }
-sized false = record { least = omega arith; most = omega arith; slot-most = omega arith }
+sized true = record { least = omega arith; most = omega arith; page-least = omega arith; page-most = omega arith; slot-most = omega arith }
+sized false = record { least = omega arith; most = omega arith; page-least = omega arith; page-most = omega arith; slot-most = omega arith }
+
+-- a table that reaches as far by the smaller pages does so by those of either
+pub pages-fit : (b : Bool) (used n : ℕ) → used + indexPage ≤ n * indexPage → used + familyFor b .page ≤ n * familyFor b .page
+pages-fit true used n l = omega arith
+pages-fit false used n l = l
+
+-- it has an entry for each page of the map, and one before them
+pub pages-count : (b : Bool) (used n : ℕ) → 1 ≤ used → used + indexPage ≤ n * indexPage → (used - 1) / familyFor b .page + 2 ≤ n
+pages-count true used n h l = omega arith
+pages-count false used n h l = omega arith
+
+pub pages-below : (b : Bool) (used i : ℕ) → 1 ≤ used → i * familyFor b .page < used + familyFor b .page → i < (used - 1) / familyFor b .page + 2
+pages-below true used i h l = omega arith
+pages-below false used i h l = omega arith
 
 -- ---- index blocks
 
@@ -53,6 +69,10 @@ module _ (m : List ℕ) (none : List ℕ) (g : Empty none) where
   unfolding headerOf
   index-rule-in true e = rw e (rule-none _ none refl refl g)
   index-rule-in false e = rw e (rule-ranges _ none g)
+
+pub index-page : (m : List ℕ) {h : Header} {k : Kind} → h ≡ headerOf m → k ≡ indexKind h → k .page ≡ familyOf m .page
+unfolding headerOf
+index-page m e f = rw (f, e)
 
 module _ (m : List ℕ) {h : Header} {k : Kind} (e : h ≡ headerOf m) (f : k ≡ indexKind h) (none : List ℕ) (g : Empty none) where
   pub index-rule : kindRule k none ≡ indexRuleOf (familyOf m) m
@@ -81,21 +101,21 @@ module _ (m : List ℕ) {h : Header} {k : Kind} (e : h ≡ headerOf m) (f : k �
         };
         least = least;
         head-in = omega arith;
-        page-least = omega arith;
-        page-most = omega (arith, s .least);
-        wide = wide;
+        page-least = omega (arith, s .page-least);
+        page-most = s .page-most;
+        wide = pages-fit w _ _ wide;
       })
 
 -- ---- symbol blocks
 
-module _ (f : Family) {k : Kind} (e : k ≡ symbolKind (f .block)) where
-  pub symbol-rule : {m : List ℕ} {n : ℕ} {index : List ℕ} → EndsTable (f .block) indexHead indexPage m n index → kindRule k index ≡ symbolRuleOf f m n
+module _ (f : Family) {k : Kind} (e : k ≡ symbolKind f) where
+  pub symbol-rule : {m : List ℕ} {n : ℕ} {index : List ℕ} → EndsTable (f .block) indexHead (f .page) m n index → kindRule k index ≡ symbolRuleOf f m n
   symbol-rule {index} w =
       rw e
-      (rule-other (symbolKind (f .block)) index refl refl
+      (rule-other (symbolKind f) index refl refl
       ∙ ap (λ (touch : ℕ → ℕ → Bool). record { head = symbolHead; size = symbolBlockSize; taboo = λ p. touch p symbolBlockSize }) (same-touch f w))
 
-  pub symbol-ready : Sized f → {m : List ℕ} {used : ℕ} {index t : List ℕ} → headerSize ≤ used → Indexed (f .block) m used index → used + symbolPage ≤ length t * symbolPage → Ready k used index t
+  pub symbol-ready : Sized f → {m : List ℕ} {used : ℕ} {index t : List ℕ} → headerSize ≤ used → Indexed (f .block) (f .page) m used index → used + symbolPage ≤ length t * symbolPage → Ready k used index t
   symbol-ready s least indexed wide =
       rw e
       (record {
@@ -109,7 +129,7 @@ module _ (f : Family) {k : Kind} (e : k ≡ symbolKind (f .block)) where
           second-size-fits = omega arith;
           other-least = omega (arith, s .least);
           other-most = omega (arith, s .most);
-          other-page = omega arith;
+          other-page = omega (arith, s .page-least);
           other-wide = indexed .wide;
           other-filled = indexed .filled;
         };

@@ -1,7 +1,7 @@
 -- The two layouts of a map m side by side, the two kinds of chain in it, and where slots and entries stand.
---     Family                what a layout has of its own: the bytes of an index block and of a slot, what an index block keeps off beside other index blocks,
---                           which slots are live, and whether a slot or a symbol entry at a place is at fault, by the test whether an index block shares a byte
---                           with a range
+--     Family                what a layout has of its own: the bytes of an index block, of a page of their table and of a slot, what an index block keeps off,
+--                           beside other index blocks, which slots are live, and whether a slot or a symbol entry at a place is at fault, by the test whether an
+--                           index block shares a byte with a range
 --     narrow, wide          the layouts of OCAD 6, 7 and 8; and of 9, 10 and 11
 --     familyIn v, familyOf m     the layout of version v, and of the map m
 --     indexRuleOf f m       index blocks: the first link at 12, each as many bytes as the layout says. In 6 to 8 none shares a byte with setup or info. (Size 0
@@ -15,7 +15,7 @@ use Prim.Native.Nat.{ℕ}
 use mathlib.Core.Bool.{Bool, true, false, _||_}
 use mathlib.Core.List.{List}
 use Rattle.numbers.specs.Ranges.{share}
-use Rattle.records.specs.Sizes.{indexBlockSize, slotSize, wideBlockSize, wideSlotSize, symbolBlockSize, entrySize}
+use Rattle.records.specs.Sizes.{indexBlockSize, indexPage, slotSize, wideBlockSize, widePage, wideSlotSize, symbolBlockSize, entrySize}
 use Rattle.records.specs.Headers.{partOf, setupAt, infoAt, indexHead, symbolHead, isWide}
 use Rattle.slots.specs.declared.State.the-variants.{Live}
 use Rattle.slots.specs.Slots.{slotOf, stateOf, sameState}
@@ -27,6 +27,7 @@ use Rattle.judge.specs.Judging.{versionOf, badSlot, badEntry}
 
 pub record Family : Type 0 where
   pub block : ℕ
+  pub page : ℕ
   pub slot : ℕ
   pub taboo : List ℕ → ℕ → Bool
   pub live : List ℕ → ℕ → Bool
@@ -37,6 +38,7 @@ abbrev pub narrow : Family
 narrow =
     record {
       block = indexBlockSize;
+      page = indexPage;
       slot = slotSize;
       taboo = λ m p.
           share (partOf m setupAt .at) (partOf m setupAt .size) p indexBlockSize
@@ -50,6 +52,7 @@ abbrev pub wide : Family
 wide =
     record {
       block = wideBlockSize;
+      page = widePage;
       slot = wideSlotSize;
       taboo = λ m p. false;
       live = λ m p. wideLive (wideSlotOf m p);

@@ -23,7 +23,7 @@ ghost use mathlib.Core.Bool.{true, _&&_};
 ghost use Prim.Native.Nat.{ℕ, _+_, _*_, _≤_, _<_};
 ghost use Rattle.numbers.specs.Bytes.{u32At};
 ghost use Rattle.numbers.specs.Below.{first};
-ghost use Rattle.records.specs.Sizes.{indexBlockSize, mapLimit, blockCells};
+ghost use Rattle.records.specs.Sizes.{indexBlockSize, indexPage, mapLimit, blockCells};
 ghost use Rattle.slots.specs.Slots.{slotOf, lenGood, bytesIn, bytesInRange};
 ghost use Rattle.chain.specs.Cells.{cellIn};
 ghost use Rattle.chain.specs.Tables.{endsMeet};
@@ -62,7 +62,7 @@ fn header_fits(h: ObjectHeader, t: Slot, bytes: usize) -> bool
 
 // Whether a slot's Len is allowed and its object is good. The part of the map that starts at its position is handed on.
 fn object_good(m: &[u8], used: usize, version: u16, index: &[u32], t: Slot) -> bool
-    requires { ⌜ Indexed indexBlockSize (now m) used (now index) × (t .len ≡ 0 → ⊥) ⌝ }
+    requires { ⌜ Indexed indexBlockSize indexPage (now m) used (now index) × (t .len ≡ 0 → ⊥) ⌝ }
     ensures { λ r. ⌜ r ≡ (lenGood version (t .len) && objectGood (endsMeet indexBlockSize (now (index .entry))) (now (m .entry)) used version t) ⌝ }
 {
     let at = t.position as usize;
@@ -84,7 +84,7 @@ fn object_good(m: &[u8], used: usize, version: u16, index: &[u32], t: Slot) -> b
 
 // Whether a slot that is not free would be good as a live one. The two comparisons stand apart for the sake of time (DECISIONS, C9).
 pub fn slot_good(m: &[u8], used: usize, version: u16, index: &[u32], t: Slot) -> bool
-    requires { ⌜ Indexed indexBlockSize (now m) used (now index) × (t .len ≡ 0 → ⊥) ⌝ }
+    requires { ⌜ Indexed indexBlockSize indexPage (now m) used (now index) × (t .len ≡ 0 → ⊥) ⌝ }
     ensures { λ r. ⌜ r ≡ slotGood (endsMeet indexBlockSize (now (index .entry))) (now (m .entry)) used version t ⌝ }
 {
     if !at_most(t.left, t.right) {
@@ -98,7 +98,7 @@ pub fn slot_good(m: &[u8], used: usize, version: u16, index: &[u32], t: Slot) ->
 
 // Whether a slot that is not free is live and not good.
 pub fn bad_slot(m: &[u8], used: usize, version: u16, index: &[u32], t: Slot) -> bool
-    requires { ⌜ Indexed indexBlockSize (now m) used (now index) × (t .len ≡ 0 → ⊥) ⌝ }
+    requires { ⌜ Indexed indexBlockSize indexPage (now m) used (now index) × (t .len ≡ 0 → ⊥) ⌝ }
     ensures { λ r. ⌜ ((at : ℕ) → t ≡ slotOf (now (m .entry)) at
         → r ≡ badSlot (endsMeet indexBlockSize (now (index .entry))) (now (m .entry)) used version at) ⌝ }
 {
@@ -110,7 +110,7 @@ pub fn bad_slot(m: &[u8], used: usize, version: u16, index: &[u32], t: Slot) -> 
 
 // Whether a symbol record is good.
 fn symbol_good(m: &[u8], used: usize, index: &[u32], at: usize) -> bool
-    requires { ⌜ (at < 4294967296) × Indexed indexBlockSize (now m) used (now index) ⌝ }
+    requires { ⌜ (at < 4294967296) × Indexed indexBlockSize indexPage (now m) used (now index) ⌝ }
     ensures { λ r. ⌜ r ≡ symbolGood (endsMeet indexBlockSize (now (index .entry))) (now (m .entry)) used at ⌝ }
 {
     if at < Header::SIZE {
@@ -131,7 +131,7 @@ fn symbol_good(m: &[u8], used: usize, index: &[u32], at: usize) -> bool
 
 // Whether a symbol entry that says p is used and its record is not good.
 fn bad_entry(m: &[u8], used: usize, index: &[u32], p: usize) -> bool
-    requires { ⌜ (p < 4294967296) × Indexed indexBlockSize (now m) used (now index) ⌝ }
+    requires { ⌜ (p < 4294967296) × Indexed indexBlockSize indexPage (now m) used (now index) ⌝ }
     ensures { λ r. ⌜ ((at : ℕ) → p ≡ u32At (now (m .entry)) at → r ≡ badEntry (endsMeet indexBlockSize (now (index .entry))) (now (m .entry)) used at) ⌝ }
 {
     if p == 0 {
@@ -142,7 +142,7 @@ fn bad_entry(m: &[u8], used: usize, index: &[u32], p: usize) -> bool
 
 // Whether a symbol entry that says p, in a map of either layout, is used and its record is not good.
 pub fn entry_at_fault(m: &[u8], used: usize, wide: bool, index: &[u32], p: usize) -> bool
-    requires { ⌜ (p < 4294967296) × Indexed (familyFor wide .block) (now m) used (now index) ⌝ }
+    requires { ⌜ (p < 4294967296) × Indexed (familyFor wide .block) (familyFor wide .page) (now m) used (now index) ⌝ }
     ensures { λ r. ⌜ ((at : ℕ) → p ≡ u32At (now (m .entry)) at
         → r ≡ familyFor wide .entryAtFault (endsMeet (familyFor wide .block) (now (index .entry))) (now (m .entry)) used at) ⌝ }
 {
@@ -160,6 +160,16 @@ pub fn block_size(version: u16) -> usize
         return WideBlock::SIZE;
     }
     IndexBlock::SIZE
+}
+
+// The bytes of a page of the table of index blocks.
+pub fn page_size(version: u16) -> usize
+    ensures { λ r. ⌜ r ≡ familyIn version .page ⌝ }
+{
+    if is_wide(version) {
+        return WideBlock::PAGE;
+    }
+    IndexBlock::PAGE
 }
 
 // The bytes of a slot.
@@ -183,9 +193,9 @@ pub fn slot_place(version: u16, block: usize, j: usize) -> usize
     IndexBlock::new(block).slot(j)
 }
 
-// The chain of symbol blocks, as a kind: its blocks keep off the index blocks, which have so many bytes.
-pub fn symbol_kind(block: usize) -> Kind
-    ensures { λ r. ⌜ r ≡ symbolKind block ⌝ }
+// The chain of symbol blocks, as a kind: its blocks keep off the index blocks.
+pub fn symbol_kind(version: u16) -> Kind
+    ensures { λ r. ⌜ r ≡ symbolKind (familyIn version) ⌝ }
 {
     Kind {
         head: Header::SYMBOLS,
@@ -195,8 +205,8 @@ pub fn symbol_kind(block: usize) -> Kind
         first_size: 0,
         second: 0,
         second_size: 0,
-        other_size: block,
-        other_page: IndexBlock::PAGE,
+        other_size: block_size(version),
+        other_page: page_size(version),
     }
 }
 
@@ -217,7 +227,7 @@ pub fn index_kind(h: Header) -> Kind
     Kind {
         head: Header::INDEX,
         size: block_size(h.version),
-        page: IndexBlock::PAGE,
+        page: page_size(h.version),
         first: setup.at as usize,
         first_size: part_size(wide, setup.size),
         second: info.at as usize,

@@ -37,7 +37,7 @@ pub const BLOCK_WORDS: usize = 4;
 // A word's slots in a row, in the layout of the version.
 fn look_in_row(m: &[u8], used: usize, version: u16, index: &[u32], from: usize, w: Window) -> Word
     requires { ⌜ (version ≡ versionOf (now m)) × (from + wordBits * familyOf (now m) .slot ≤ used)
-        × Indexed (familyOf (now m) .block) (now m) used (now index) ⌝ }
+        × Indexed (familyOf (now m) .block) (familyOf (now m) .page) (now m) used (now index) ⌝ }
     ensures { λ r. ⌜ (r .bad
         ≡ first (λ j. slotFault version (now (m .entry)) used (now (index .entry)) (slotFrom (familyOf (now (m .entry)) .slot) from j)) wordBits)
         × (r .bad ≡ wordBits → r .bits ≡ bitsFrom (liveFrom (familyOf (now (m .entry))) (now (m .entry)) w from) 0 wordBits) ⌝ }
@@ -67,7 +67,7 @@ fn look_in_block(
     words: &mut [u64],
     before: usize,
 ) -> Looked
-    requires { ⌜ (version ≡ versionOf (now m)) × (block + familyOf (now m) .block ≤ used) × Indexed (familyOf (now m) .block) (now m) used (now index)
+    requires { ⌜ (version ≡ versionOf (now m)) × (block + familyOf (now m) .block ≤ used) × Indexed (familyOf (now m) .block) (familyOf (now m) .page) (now m) used (now index)
         × SlotsOf (now m) block (blockCells * k) × (k < mostBlocks) × (blockWords * k + blockWords ≤ length (now words))
         × (before ≡ length (sel (liveIn (now m) w) (blockCells * k))) × Marked (now m) w (now words) (blockWords * k) ⌝ }
     ensures { λ r. ⌜ (r .bad

@@ -10,7 +10,7 @@ use windows::meets_window;
 ghost use mathlib.Core.Path.{_≡_};
 ghost use Prim.Native.Nat.{_+_, _*_, _≤_};
 ghost use Rattle.numbers.specs.Below.{first};
-ghost use Rattle.records.specs.Sizes.{wideBlockSize, wideSlotSize};
+ghost use Rattle.records.specs.Sizes.{wideBlockSize, widePage, wideSlotSize};
 ghost use Rattle.bits.specs.Bits.{bitsFrom, wordBits};
 ghost use Rattle.chain.specs.Tables.{endsMeet};
 ghost use Rattle.chain.specs.Indexed.{Indexed};
@@ -20,7 +20,7 @@ ghost use Rattle.look.specs.Looks.{slotFrom, liveFrom};
 
 // A word's slots in a row, from a place on: judged, and looked at, up to the first at fault.
 pub fn look_in_wide_word(m: &[u8], used: usize, index: &[u32], from: usize, w: Window) -> Word
-    requires { ⌜ (from + wordBits * wideSlotSize ≤ used) × Indexed wideBlockSize (now m) used (now index) ⌝ }
+    requires { ⌜ (from + wordBits * wideSlotSize ≤ used) × Indexed wideBlockSize widePage (now m) used (now index) ⌝ }
     ensures { λ r. ⌜ (r .bad
         ≡ first (λ j. wideBadSlot (endsMeet wideBlockSize (now (index .entry))) (now (m .entry)) used (slotFrom wideSlotSize from j)) wordBits)
         × (r .bad ≡ wordBits → r .bits ≡ bitsFrom (liveFrom wide (now (m .entry)) w from) 0 wordBits) ⌝ }

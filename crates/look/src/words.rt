@@ -8,7 +8,7 @@ use windows::meets_window;
 ghost use mathlib.Core.Path.{_≡_};
 ghost use Prim.Native.Nat.{_+_, _*_, _≤_};
 ghost use Rattle.numbers.specs.Below.{first};
-ghost use Rattle.records.specs.Sizes.{indexBlockSize, slotSize};
+ghost use Rattle.records.specs.Sizes.{indexBlockSize, indexPage, slotSize};
 ghost use Rattle.bits.specs.Bits.{bitsFrom, wordBits};
 ghost use Rattle.chain.specs.Tables.{endsMeet};
 ghost use Rattle.chain.specs.Indexed.{Indexed};
@@ -34,7 +34,7 @@ pub fn look_in_word(
     from: usize,
     w: Window,
 ) -> Word
-    requires { ⌜ (from + wordBits * slotSize ≤ used) × Indexed indexBlockSize (now m) used (now index) ⌝ }
+    requires { ⌜ (from + wordBits * slotSize ≤ used) × Indexed indexBlockSize indexPage (now m) used (now index) ⌝ }
     ensures { λ r. ⌜ (r .bad
         ≡ first (λ j. badSlot (endsMeet indexBlockSize (now (index .entry))) (now (m .entry)) used version (slotFrom slotSize from j)) wordBits)
         × (r .bad ≡ wordBits → r .bits ≡ bitsFrom (liveFrom narrow (now (m .entry)) w from) 0 wordBits) ⌝ }

@@ -30,9 +30,12 @@ wideSlotSize = 40
 abbrev pub mostBlocks : ℕ
 mostBlocks = 2728
 
--- a table of index blocks goes by pages of so many bytes, fewer than a block has
+-- a table of index blocks goes by pages of so many bytes, fewer than a block has; and in 9 to 11
 abbrev pub indexPage : ℕ
 indexPage = 4096
+
+abbrev pub widePage : ℕ
+widePage = 8192
 
 -- a symbol block: a link, then entries
 abbrev pub symbolBlockSize : ℕ

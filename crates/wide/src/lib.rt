@@ -10,7 +10,7 @@ ghost use mathlib.Core.Path.{_≡_};
 ghost use Prim.Native.Nat.{ℕ, _+_, _*_, _≤_, _<_};
 ghost use lib.ListN.{length};
 ghost use Rattle.numbers.specs.Bytes.{u32At};
-ghost use Rattle.records.specs.Sizes.{wideBlockSize, wideSlotSize, wideHeaderSize, blockCells, linkSize};
+ghost use Rattle.records.specs.Sizes.{wideBlockSize, widePage, wideSlotSize, wideHeaderSize, blockCells, linkSize};
 ghost use Rattle.chain.specs.Tables.{endsMeet};
 ghost use Rattle.chain.specs.Indexed.{Indexed};
 ghost use Rattle.wide.specs.Slots.{wideSlotOf, wideLive, wideObjectOf, wideTypeGood, wideBytes, wideObjectGood, wideSlotGood, wideBadSlot};
@@ -24,7 +24,7 @@ pub struct WideBlock {
 impl WideBlock {
     pub const SIZE: usize = 10244;
     // A table of them goes by pages of so many bytes.
-    pub const PAGE: usize = 4096;
+    pub const PAGE: usize = 8192;
 
     pub fn new(at: usize) -> WideBlock
         ensures { λ r. ⌜ r .at ≡ at ⌝ }
@@ -143,7 +143,7 @@ fn wide_bytes(len: u32, items: u32, texts: u16) -> usize
 
 // Whether a slot's object is good. An object has 40 bytes at least in both meanings of Len, so its header is read after that test.
 fn wide_object_good(m: &[u8], used: usize, index: &[u32], t: WideSlot) -> bool
-    requires { ⌜ Indexed wideBlockSize (now m) used (now index) × (t .len ≡ 0 → ⊥) ⌝ }
+    requires { ⌜ Indexed wideBlockSize widePage (now m) used (now index) × (t .len ≡ 0 → ⊥) ⌝ }
     ensures { λ r. ⌜ r ≡ wideObjectGood (endsMeet wideBlockSize (now (index .entry))) (now (m .entry)) used t ⌝ }
 {
     let at = t.position as usize;
@@ -172,7 +172,7 @@ fn wide_object_good(m: &[u8], used: usize, index: &[u32], t: WideSlot) -> bool
 
 // Whether a slot that has a Len would be good as a live one.
 fn wide_slot_good(m: &[u8], used: usize, index: &[u32], t: WideSlot) -> bool
-    requires { ⌜ Indexed wideBlockSize (now m) used (now index) × (t .len ≡ 0 → ⊥) ⌝ }
+    requires { ⌜ Indexed wideBlockSize widePage (now m) used (now index) × (t .len ≡ 0 → ⊥) ⌝ }
     ensures { λ r. ⌜ r ≡ wideSlotGood (endsMeet wideBlockSize (now (index .entry))) (now (m .entry)) used t ⌝ }
 {
     if !at_most(t.left, t.right) {
@@ -186,7 +186,7 @@ fn wide_slot_good(m: &[u8], used: usize, index: &[u32], t: WideSlot) -> bool
 
 // Whether a slot is live and not good.
 pub fn wide_bad_slot(m: &[u8], used: usize, index: &[u32], t: WideSlot) -> bool
-    requires { ⌜ Indexed wideBlockSize (now m) used (now index) ⌝ }
+    requires { ⌜ Indexed wideBlockSize widePage (now m) used (now index) ⌝ }
     ensures { λ r. ⌜ ((at : ℕ) → t ≡ wideSlotOf (now (m .entry)) at
         → r ≡ wideBadSlot (endsMeet wideBlockSize (now (index .entry))) (now (m .entry)) used at) ⌝ }
 {
@@ -208,7 +208,7 @@ impl WideRecord {
 
 // Whether a symbol record is good. A Size that is negative is past every map's end.
 fn wide_symbol_good(m: &[u8], used: usize, index: &[u32], at: usize) -> bool
-    requires { ⌜ (at < 4294967296) × Indexed wideBlockSize (now m) used (now index) ⌝ }
+    requires { ⌜ (at < 4294967296) × Indexed wideBlockSize widePage (now m) used (now index) ⌝ }
     ensures { λ r. ⌜ r ≡ wideSymbolGood (endsMeet wideBlockSize (now (index .entry))) (now (m .entry)) used at ⌝ }
 {
     if at < Header::SIZE {
@@ -229,7 +229,7 @@ fn wide_symbol_good(m: &[u8], used: usize, index: &[u32], at: usize) -> bool
 
 // Whether a symbol entry that says p is used and its record is not good.
 pub fn wide_bad_entry(m: &[u8], used: usize, index: &[u32], p: usize) -> bool
-    requires { ⌜ (p < 4294967296) × Indexed wideBlockSize (now m) used (now index) ⌝ }
+    requires { ⌜ (p < 4294967296) × Indexed wideBlockSize widePage (now m) used (now index) ⌝ }
     ensures { λ r. ⌜ ((at : ℕ) → p ≡ u32At (now (m .entry)) at
         → r ≡ wideBadEntry (endsMeet wideBlockSize (now (index .entry))) (now (m .entry)) used at) ⌝ }
 {

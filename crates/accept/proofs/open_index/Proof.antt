@@ -4,9 +4,7 @@ use mathlib.Core.Path.{_≡_, sym, ap, _∙_}
 use lib.ListN.{replicate}
 use denote.Ref.{now}
 use borrow.Author.Needs.{needs}
-use Rattle.records.specs.Sizes.{indexPage}
 use Rattle.records.specs.Headers.{indexHead}
-use Rattle.chain.specs.declared.Kind.{Kind}
 use Rattle.chain.specs.declared.Walk.the-variants.{Blocks, Fault}
 use Rattle.chain.specs.Chains.{walked, taken}
 use Rattle.chain.specs.Tables.{Placed, Table}
@@ -14,7 +12,7 @@ use Rattle.chain.proofs.Tables.{zeros}
 use Rattle.chain.proofs.Walking.{table-of}
 use Rattle.judge.specs.Rules.{familyOf, indexRuleOf}
 use Rattle.accept.specs.Opens.{openedAfter}
-use Rattle.judge.proofs.Rules.{index-rule, index-ready, walk-by, fault-fits}
+use Rattle.judge.proofs.Rules.{index-page, index-rule, index-ready, walk-by, fault-fits}
 use Rattle.accept.proofs.open_index.Statement.{statement}
 use Rattle.accept.proofs.open_index.Tie as tie
 
@@ -43,11 +41,11 @@ walk-chain-requires c κs =
     )
 
 -- the walk's answer and its table, by the rule
-walk : (c : tie.After-walk-chain) → let a = start c .args in (walked (indexRuleOf (familyOf (now (a .m))) (now (a .m))) (now (a .m)) (a .used) ≡ c .walk-chain .result) × Placed indexPage (c .walk-chain .last .1 .1 .1 .1 .0) × Table indexHead indexPage (now (a .m)) (taken (indexRuleOf (familyOf (now (a .m))) (now (a .m))) (now (a .m)) (a .used)) (c .walk-chain .last .1 .1 .1 .1 .0)
+walk : (c : tie.After-walk-chain) → let a = start c .args in (walked (indexRuleOf (familyOf (now (a .m))) (now (a .m))) (now (a .m)) (a .used) ≡ c .walk-chain .result) × Placed (familyOf (now (a .m)) .page) (c .walk-chain .last .1 .1 .1 .1 .0) × Table indexHead (familyOf (now (a .m)) .page) (now (a .m)) (taken (indexRuleOf (familyOf (now (a .m))) (now (a .m))) (now (a .m)) (a .used)) (c .walk-chain .last .1 .1 .1 .1 .0)
 walk c =
     let k = c .before .before .before in
     let a = start c .args in
-    walk-by (a .used) (index-rule (now (a .m)) (k .before .of .ensures) (k .index-kind .ensures) (replicate 2 0) (zeros 2)) (ap (λ (x : Kind). x .page) (k .index-kind .ensures)) (c .walk-chain .ensures)
+    walk-by (a .used) (index-rule (now (a .m)) (k .before .of .ensures) (k .index-kind .ensures) (replicate 2 0) (zeros 2)) (index-page (now (a .m)) (k .before .of .ensures) (k .index-kind .ensures)) (c .walk-chain .ensures)
 
 whole : (c : tie.After-w) → let a = start-whole c .args in walked (indexRuleOf (familyOf (now (a .m))) (now (a .m))) (now (a .m)) (a .used) ≡ Blocks (c .w .given .0 .0)
 whole c = walk (c .before .before .before .before) .0 ∙ c .w .given .1

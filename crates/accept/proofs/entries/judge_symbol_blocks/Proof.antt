@@ -17,7 +17,7 @@ use Rattle.accept.proofs.entries.judge_symbol_blocks.Tie as tie
 
 -- where the map's bytes come to be known, from the walk
 abbrev mapped : tie.After-walk-chain → tie.After-shared-slice-known
-mapped c = c .before .before .before .before .before .before .before
+mapped c = c .before .before .before .before .before .before
 
 -- where the function starts, from the walk and from the two arms of the match on its answer
 abbrev start : tie.After-walk-chain → tie.Start
@@ -30,15 +30,13 @@ abbrev start-fault : tie.After-w2 → tie.Start
 start-fault c = start (c .before .before .before .before)
 
 -- the kind, by the layout of the map
-kind : (c : tie.After-symbol-kind) → c .symbol-kind .result ≡ symbolKind (familyOf (now (c .before .before .before .before .before .before .args .m)) .block)
-kind c =
-    let b = c .before in
-    c .symbol-kind .ensures ∙ ap symbolKind (b .block-size .ensures ∙ ap (λ (v : ℕ). familyIn v .block) (b .before .u16-at .ensures))
+kind : (c : tie.After-symbol-kind) → c .symbol-kind .result ≡ symbolKind (familyOf (now (c .before .before .before .before .before .args .m)))
+kind c = c .symbol-kind .ensures ∙ ap (λ (v : ℕ). symbolKind (familyIn v)) (c .before .u16-at .ensures)
 
 walk-chain-requires : tie.Need-walk-chain-requires
 walk-chain-requires c κs =
     let k = c .before in
-    let s = k .before .before .before .before .before .before in
+    let s = k .before .before .before .before .before in
     let m = now (s .args .m) in
     (s .pre .0 .indexed .room, symbol-ready (familyOf m) (kind k) (sized (isWide (versionOf m))) (s .pre .0 .low) (s .pre .0 .indexed) (s .pre .1), s .pre .2)
 
@@ -66,8 +64,8 @@ judge-entries-requires-2 c κs =
     let s = start-fault w in
     (s .pre .0, taken-of (symbolRuleOf (familyOf (now (s .args .m))) (now (s .args .m)) (s .args .n)) (now (s .args .m)) (s .args .used) (Fault (w .w2 .given .0 .0) (w .w2 .given .0 .1 .0)) (fault w))
 
-cast-t20 : tie.Need-cast-t20
-cast-t20 c =
+cast-t19 : tie.Need-cast-t19
+cast-t19 c =
     let w = c .before .before .before .before in
     let k = mapped (w .before .before .before .before) in
     let a = k .before .args in
@@ -99,14 +97,13 @@ judge-symbol-blocks-spec =
     (tie.spec
     (λ c κs. let s = c .before .before .before in omega (arith, s .pre .0 .low, s .pre .0 .indexed .room))
     (λ c κs. search needs)
-    (λ c κs. search needs)
     walk-chain-requires
     (λ c. search needs)
     judge-entries-requires
     (λ c. search needs)
     judge-entries-requires-2
     (λ c. search needs)
-    cast-t20
+    cast-t19
     (λ c. search needs)
     (λ c. search needs)
     returns
