@@ -159,19 +159,19 @@ module _ {m : List ℕ} {bs : List ℕ} (ls : Links m indexHead bs) (used q : �
 -- the two meanings of a Len in 9 to 11 exclude each other
 bytes-tell : (len k : ℕ) → (wideBytes len k ≡ 0 → ⊥) → HasBytes len k (wideBytes len k)
 unfolding wideBytes
-bytes-tell len k = go (eqb len k) refl (eqb len (40 + 8 * k)) refl
+bytes-tell len k = go (eqb len (40 + 8 * k)) refl (eqb len k) refl
   where
-    go : (a : Bool) → eqb len k ≡ a → (b : Bool) → eqb len (40 + 8 * k) ≡ b
-        → (cond a (32 + 8 * len) (cond b len 0) ≡ 0 → ⊥) → HasBytes len k (cond a (32 + 8 * len) (cond b len 0))
-    go true p b q ne = inl (eqb-true len k p, refl)
-    go false p true q ne = inr (eqb-true len (40 + 8 * k) q, refl)
+    go : (a : Bool) → eqb len (40 + 8 * k) ≡ a → (b : Bool) → eqb len k ≡ b
+        → (cond a len (cond b (32 + 8 * len) 0) ≡ 0 → ⊥) → HasBytes len k (cond a len (cond b (32 + 8 * len) 0))
+    go true p b q ne = inr (eqb-true len (40 + 8 * k) p, refl)
+    go false p true q ne = inl (eqb-true len k q, refl)
     go false p false q ne = absurd (ne refl)
 
 bytes-are : (len k bytes : ℕ) → HasBytes len k bytes → (wideBytes len k ≡ bytes) × (bytes ≡ 0 → ⊥)
 unfolding wideBytes
-bytes-are len k bytes (inl (e, b)) = (rw (eq-eqb len k e) (sym b), λ z. omega arith)
-bytes-are len k bytes (inr (e, b)) =
-    (rw (ne-eqb len k (λ s. omega arith), eq-eqb len (40 + 8 * k) e) (sym b), λ z. omega arith)
+bytes-are len k bytes (inl (e, b)) =
+    (rw (ne-eqb len (40 + 8 * k) (λ s. omega arith), eq-eqb len k e) (sym b), λ z. omega arith)
+bytes-are len k bytes (inr (e, b)) = (rw (eq-eqb len (40 + 8 * k) e) (sym b), λ z. omega arith)
 
 module _ {m : List ℕ} {bs : List ℕ} (ls : Links m indexHead bs) (used : ℕ) where
   live-of : (t : Slot) → (slotGood (touchesOf narrow m (length bs)) m used (versionOf m) t ≡ true) ↔ GoodLive m used bs t

@@ -32,23 +32,23 @@ object-part m p {k} h =
 -- an object has 40 bytes at least, in both meanings of Len
 pub bytes-least : (len k : ℕ) → (len ≡ 0 → ⊥) → (wideBytes len k ≡ 0 → ⊥) → 40 ≤ wideBytes len k
 unfolding wideBytes
-bytes-least len k ne nz = go (eqb len k) refl (eqb len (40 + 8 * k)) refl nz
+bytes-least len k ne nz = go (eqb len (40 + 8 * k)) refl (eqb len k) refl nz
   where
-    go : (a : Bool) → eqb len k ≡ a → (b : Bool) → eqb len (40 + 8 * k) ≡ b
-        → (cond a (32 + 8 * len) (cond b len 0) ≡ 0 → ⊥) → 40 ≤ cond a (32 + 8 * len) (cond b len 0)
-    go true p b q z = let l : 1 ≤ len = some len ne in omega arith
-      where
-        some : (n : ℕ) → (n ≡ 0 → ⊥) → 1 ≤ n
-        some n h = omega arith
-    go false p true q z = let e = eqb-true len (40 + 8 * k) q in omega arith
+    some : (n : ℕ) → (n ≡ 0 → ⊥) → 1 ≤ n
+    some n h = omega arith
+
+    go : (a : Bool) → eqb len (40 + 8 * k) ≡ a → (b : Bool) → eqb len k ≡ b
+        → (cond a len (cond b (32 + 8 * len) 0) ≡ 0 → ⊥) → 40 ≤ cond a len (cond b (32 + 8 * len) 0)
+    go true p b q z = omega (arith, eqb-true len (40 + 8 * k) p)
+    go false p true q z = omega (arith, some len ne)
     go false p false q z = absurd (z refl)
 
 -- and never more than a header and Len pairs have
 pub bytes-most : (len k : ℕ) → wideBytes len k ≤ 32 + 8 * len
 unfolding wideBytes
-bytes-most len k = go (eqb len k) (eqb len (40 + 8 * k))
+bytes-most len k = go (eqb len (40 + 8 * k)) (eqb len k)
   where
-    go : (a b : Bool) → cond a (32 + 8 * len) (cond b len 0) ≤ 32 + 8 * len
+    go : (a b : Bool) → cond a len (cond b (32 + 8 * len) 0) ≤ 32 + 8 * len
     go true b = omega arith
     go false true = omega arith
     go false false = omega arith

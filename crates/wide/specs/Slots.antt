@@ -4,8 +4,8 @@
 --     wideLive t            status 1 (normal) or 2 (hidden), and Len is not 0; nothing else is live
 --     wideObjectOf o        the header of the object whose bytes start the list o
 --     wideTypeGood k        the type is 1 to 7
---     wideBytes len k       the bytes of an object of k pairs (nItem + nText), by its slot's Len in both its meanings: Len counts the pairs, and the object has
---                           32 + 8 x Len bytes; or Len is the object's bytes, 40 + 8 x k. 0: neither
+--     wideBytes len k       the bytes of an object of k pairs (nItem + nText), by its slot's Len in both its meanings: Len is the object's bytes, 40 + 8 x k; or
+--                           Len counts the pairs, and the object has 32 + 8 x Len bytes. 0: neither
 --     wideHeaderFits h t    Sym is the slot's, the type is good, and Len has one of its two meanings
 --     wideObjectGood        the object's header fits, and the object lies inside the map and shares no byte with an index block
 --     wideSlotGood          left <= right and bottom <= top by value, and the object is good
@@ -46,7 +46,7 @@ unfoldable pub wideTypeGood : ℕ → Bool
 wideTypeGood k = leb 1 k && leb k 7
 
 unfoldable pub wideBytes : ℕ → ℕ → ℕ
-wideBytes len k = cond (eqb len k) (objectHeaderSize + pairSize * len) (cond (eqb len (wideHeaderSize + pairSize * k)) len 0)
+wideBytes len k = cond (eqb len (wideHeaderSize + pairSize * k)) len (cond (eqb len k) (objectHeaderSize + pairSize * len) 0)
 
 abbrev pub bytesBy : WideSlot → WideObject → ℕ
 bytesBy t h = wideBytes (t .len) (h .items + h .texts)

@@ -132,11 +132,11 @@ fn wide_bytes(len: u32, items: u32, texts: u16) -> usize
 {
     let n = len as usize;
     let k = items as usize + texts as usize;
-    if n == k {
-        return WideObject::COUNTED + WideObject::PAIR * n;
-    }
     if n == WideObject::SIZE + WideObject::PAIR * k {
         return n;
+    }
+    if n == k {
+        return WideObject::COUNTED + WideObject::PAIR * n;
     }
     0
 }

@@ -1,5 +1,6 @@
+-- `wide::wide_bytes` meets its contract: each of the two meanings of Len, or neither. Assumes nothing.
 use borrow.Author.Needs.{needs}
-use borrow.Author.Tests.{eq-eqb, ne-eqb, le-leb, lt-leb}
+use borrow.Author.Tests.{eq-eqb, ne-eqb}
 use Rattle.wide.specs.Slots.{wideBytes}
 use Rattle.wide.proofs.wide_bytes.Statement.{statement}
 use Rattle.wide.proofs.wide_bytes.Tie as tie

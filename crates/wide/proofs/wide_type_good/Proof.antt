@@ -1,4 +1,5 @@
-use borrow.Author.Tests.{eq-eqb, ne-eqb, le-leb, lt-leb}
+-- `wide::wide_type_good` meets its contract. Assumes nothing.
+use borrow.Author.Tests.{le-leb, lt-leb}
 use Rattle.wide.specs.Slots.{wideTypeGood}
 use Rattle.wide.proofs.wide_type_good.Statement.{statement}
 use Rattle.wide.proofs.wide_type_good.Tie as tie

@@ -1,3 +1,4 @@
+-- `wide::WideObject::of` meets its contract: each field is the number at its place. Assumes nothing.
 use Rattle.wide.specs.Slots.{wideObjectOf}
 use borrow.Author.Needs.{needs}
 use Rattle.wide.proofs.WideObject.of.Statement.{statement}

@@ -1,3 +1,4 @@
+-- `wide::WideSlot::at` meets its contract: each field is the number at its place. Assumes nothing.
 use Rattle.wide.specs.Slots.{wideSlotOf}
 use borrow.Author.Needs.{needs}
 use Rattle.wide.proofs.WideSlot.at.Statement.{statement}
