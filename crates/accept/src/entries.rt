@@ -45,6 +45,18 @@ fn judge_block_entries(m: &[u8], used: usize, wide: bool, index: &[u32], block: 
     JudgedMap::Good
 }
 
+// The same, with the layout as a constant: so the compiler makes a loop for each, and no entry asks for it.
+fn judge_layout_entries(m: &[u8], used: usize, wide: bool, index: &[u32], block: usize) -> JudgedMap
+    requires { ⌜ (block + symbolBlockSize ≤ used) × Indexed (familyFor wide .block) (familyFor wide .page) (now m) used (now index) ⌝ }
+    ensures { λ r. ⌜ r
+        ≡ cellsJudged 6 (λ e. entryFault wide (now (m .entry)) used (now (index .entry)) (cellIn block entrySize e)) (cellIn block entrySize) blockCells ⌝ }
+{
+    if wide {
+        return judge_block_entries(m, used, true, index, block);
+    }
+    judge_block_entries(m, used, false, index, block)
+}
+
 // 6, of the first k symbol blocks: the first entry at fault.
 fn judge_entries(m: &[u8], used: usize, index: &[u32], n: usize, k: usize) -> JudgedMap
     requires { ⌜ Open (now m) used n (now index) × (k ≡ taken (symbolRuleOf (familyOf (now m)) (now m) n) (now m) used) ⌝ }
@@ -55,7 +67,7 @@ fn judge_entries(m: &[u8], used: usize, index: &[u32], n: usize, k: usize) -> Ju
     let mut i = 0;
     while i < k {
         at = u32_at(m, at) as usize;
-        let j = judge_block_entries(m, used, wide, index, at);
+        let j = judge_layout_entries(m, used, wide, index, at);
         match j {
             JudgedMap::Bad { number, place } => {
                 return JudgedMap::Bad { number, place };

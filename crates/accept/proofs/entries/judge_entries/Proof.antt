@@ -41,18 +41,18 @@ loop-holds c =
 u32-at-requires : tie.Need-u32-at-requires Inv-loop μ-loop
 u32-at-requires c κs = omega (arith, c .before .loop .inv .room)
 
-judge-block-entries-requires : tie.Need-judge-block-entries-requires Inv-loop μ-loop
-judge-block-entries-requires c κs =
+judge-layout-entries-requires : tie.Need-judge-layout-entries-requires Inv-loop μ-loop
+judge-layout-entries-requires c κs =
     let t = c .before in
     let v = t .before .before in
     (along-inside (t .before .loop .inv) (t .loop-test .taken) (c .u32-at .ensures), rw (layout v) (v .before .before .before .before .pre .0 .indexed))
 
 -- what the entries of this turn's block are judged to be, by the chain in the place of the table
-told : (c : tie.After-judge-block-entries Inv-loop μ-loop) → let a = c .before .before .before .before .before .before .before .before .args in c .judge-block-entries .result ≡ cellsJudged 6 (λ e. at-fault (now (a .m)) (a .used) (a .n) (cellIn (c .before .u32-at .result) entrySize e)) (cellIn (c .before .u32-at .result) entrySize) 256
+told : (c : tie.After-judge-layout-entries Inv-loop μ-loop) → let a = c .before .before .before .before .before .before .before .before .args in c .judge-layout-entries .result ≡ cellsJudged 6 (λ e. at-fault (now (a .m)) (a .used) (a .n) (cellIn (c .before .u32-at .result) entrySize e)) (cellIn (c .before .u32-at .result) entrySize) 256
 told c =
     let v = c .before .before .before .before in
     let s = v .before .before .before .before in
-    rw (at-fault, ← same-touch (familyOf (now (s .args .m))) (s .pre .0 .table)) (rw (layout v) at (c .judge-block-entries .ensures))
+    rw (at-fault, ← same-touch (familyOf (now (s .args .m))) (s .pre .0 .table)) (rw (layout v) at (c .judge-layout-entries .ensures))
 
 returns : tie.Need-returns Inv-loop μ-loop
 unfolding entriesJudgedOf
@@ -82,7 +82,7 @@ judge-entries-spec =
     loop-holds
     u32-at-requires
     (λ c. search needs)
-    judge-block-entries-requires
+    judge-layout-entries-requires
     (λ c. search needs)
     returns
     (λ c. search needs)
