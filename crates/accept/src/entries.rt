@@ -14,7 +14,7 @@ ghost use mathlib.Core.Path.{_≡_};
 ghost use Prim.Native.Nat.{_+_, _*_, _≤_, _<_};
 ghost use lib.ListN.{length};
 ghost use Rattle.records.specs.Sizes.{symbolBlockSize, symbolPage, entrySize, smallMap, middleMap, blockCells};
-ghost use Rattle.chain.specs.Chains.{taken};
+ghost use Rattle.chain.specs.Chains.{walked, taken};
 ghost use Rattle.chain.specs.Cells.{cellIn};
 ghost use Rattle.chain.specs.Tables.{Empty};
 ghost use Rattle.chain.specs.declared.Walk.the-variants.{Blocks};
@@ -79,13 +79,23 @@ fn judge_entries(m: &[u8], used: usize, index: &[u32], n: usize, k: usize) -> Ju
     JudgedMap::Good
 }
 
+// The walk of the symbol blocks. In each call the layout is a constant: so the compiler knows the pages, and divides by no number that it does not know.
+fn walk_symbols(m: &[u8], used: usize, index: &[u32], n: usize, t: &mut [u32]) -> Walk
+    requires { ⌜ Open (now m) used n (now index) × (used + symbolPage ≤ length (now t) * symbolPage) × Empty (now t) ⌝ }
+    ensures { λ r. ⌜ r ≡ walked (symbolRuleOf (familyOf (now (m .entry))) (now (m .entry)) n) (now (m .entry)) used ⌝ }
+{
+    if is_wide(u16_at(m, Header::VERSION)) {
+        return walk_chain(m, used, symbol_kind(true), index, t);
+    }
+    walk_chain(m, used, symbol_kind(false), index, t)
+}
+
 // 6: the symbol blocks and their entries. A table for the blocks is lent, empty before.
 fn judge_symbol_blocks(m: &[u8], used: usize, index: &[u32], n: usize, t: &mut [u32]) -> JudgedMap
     requires { ⌜ Open (now m) used n (now index) × (used + symbolPage ≤ length (now t) * symbolPage) × Empty (now t) ⌝ }
     ensures { λ r. ⌜ r ≡ symbolsJudged (now (m .entry)) used n ⌝ }
 {
-    let kind = symbol_kind(u16_at(m, Header::VERSION));
-    let w = walk_chain(m, used, kind, index, t);
+    let w = walk_symbols(m, used, index, n, t);
     match w {
         Walk::Blocks(k) => judge_entries(m, used, index, n, k),
         Walk::Fault { place, taken } => {

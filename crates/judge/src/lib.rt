@@ -19,7 +19,7 @@ use wide::WideBlock;
 use wide::WideSlot;
 use wide::wide_bad_entry;
 ghost use mathlib.Core.Path.{_≡_};
-ghost use mathlib.Core.Bool.{true, _&&_};
+ghost use mathlib.Core.Bool.{true, cond, _&&_};
 ghost use Prim.Native.Nat.{ℕ, _+_, _*_, _≤_, _<_};
 ghost use Rattle.numbers.specs.Bytes.{u32At};
 ghost use Rattle.numbers.specs.Below.{first};
@@ -193,9 +193,16 @@ pub fn slot_place(version: u16, block: usize, j: usize) -> usize
     IndexBlock::new(block).slot(j)
 }
 
-// The chain of symbol blocks, as a kind: its blocks keep off the index blocks.
-pub fn symbol_kind(version: u16) -> Kind
-    ensures { λ r. ⌜ r ≡ symbolKind (familyIn version) ⌝ }
+// The first of two numbers, or the second.
+fn either(is: bool, a: usize, b: usize) -> usize
+    ensures { λ r. ⌜ r ≡ cond is a b ⌝ }
+{
+    if is { a } else { b }
+}
+
+// The chain of symbol blocks of either layout, as a kind: its blocks keep off the index blocks.
+pub fn symbol_kind(wide: bool) -> Kind
+    ensures { λ r. ⌜ r ≡ symbolKind (familyFor wide) ⌝ }
 {
     Kind {
         head: Header::SYMBOLS,
@@ -205,8 +212,8 @@ pub fn symbol_kind(version: u16) -> Kind
         first_size: 0,
         second: 0,
         second_size: 0,
-        other_size: block_size(version),
-        other_page: page_size(version),
+        other_size: either(wide, WideBlock::SIZE, IndexBlock::SIZE),
+        other_page: either(wide, WideBlock::PAGE, IndexBlock::PAGE),
     }
 }
 
