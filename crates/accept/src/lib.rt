@@ -1,4 +1,6 @@
 // The check of a map: document 01's refusals 1 to 7, or accepted.
+#![tactic(auto)]
+
 mod entries;
 mod fields;
 mod live;

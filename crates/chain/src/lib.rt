@@ -1,4 +1,6 @@
 // Chains of blocks in a map that is lent as bytes: the walk, the table of the blocks, and the cells. Nothing here knows what a cell means.
+#![tactic(auto)]
+
 ghost use Rattle.std.specs.Prelude.{◌≡◌, ℕ, ◌+◌, ◌-◌, ◌*◌, ◌≤◌, ◌<◌, length, get_or};
 ghost use Rattle.chain.specs.Chains.{block, walked, taken};
 ghost use Rattle.chain.specs.Tables.{Empty, Placed, Table, Carried, Filled, entry_meets, table_meets, ends_meet, keeps_off, kind_rule, good_block, Bounds, Ready, Ordered};

@@ -1,5 +1,7 @@
 // What the three edits of a map under its journal have in common: their answers, and how they start. Each decides first, on the map and the journal as they
 // are, and writes after.
+#![tactic(auto)]
+
 ghost use Rattle.std.specs.Prelude.{◌≡◌, ℕ, ◌+◌, ◌*◌, ◌≤◌, ◌<◌, length};
 ghost use Rattle.records.specs.Sizes.{header_size, index_block_size, map_limit};
 ghost use Rattle.records.specs.Headers.{index_head};

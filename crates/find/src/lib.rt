@@ -1,4 +1,6 @@
 // The search by rectangle: one pass over the slots, which judges each and has a bit for it, and then the list of the bits that are 1.
+#![tactic(auto)]
+
 ghost use Rattle.std.specs.Prelude.{◌≡◌, true, false, ℕ, ◌*◌, ◌≤◌, ◌<◌, length};
 ghost use Rattle.windows.specs.declared.Window.{Window};
 ghost use Rattle.windows.specs.Windows.{window_good};

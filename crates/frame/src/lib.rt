@@ -1,1 +1,2 @@
 // What a change of a map leaves: laws alone, no code.
+#![tactic(auto)]

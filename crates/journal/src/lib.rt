@@ -1,4 +1,6 @@
 // A journal of done edits: whether it is well formed for a map, the edit number looked up, the next record. Nothing here knows how a map is edited.
+#![tactic(auto)]
+
 ghost use Rattle.std.specs.Prelude.{◌≡◌, not, ◌&&◌, List, ℕ, ◌+◌, ◌*◌, ◌%◌, ◌≤◌, ◌<◌, ltb, length};
 ghost use Rattle.numbers.specs.Below.{any};
 ghost use Rattle.records.specs.Sizes.{journal_record_size, journal_limit, block_cells};

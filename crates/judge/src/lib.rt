@@ -1,5 +1,7 @@
 // Whether one thing in a map is as document 01 wants it: setup and info, a live slot of 6 to 8 with its object, a symbol entry with its record; and the
 // kinds of chain.
+#![tactic(auto)]
+
 ghost use Rattle.std.specs.Prelude.{◌≡◌, true, cond, ◌&&◌, ℕ, ◌+◌, ◌*◌, ◌≤◌, ◌<◌};
 ghost use Rattle.numbers.specs.Bytes.{u32_at};
 ghost use Rattle.numbers.specs.Below.{first};

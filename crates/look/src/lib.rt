@@ -1,4 +1,6 @@
 // The look at the slots in one pass: each is judged, and has a bit that says whether the search lists it.
+#![tactic(auto)]
+
 mod wide_words;
 mod words;
 

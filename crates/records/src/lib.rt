@@ -1,6 +1,8 @@
 // A type for each kind of record of a map and of a journal but for slots and objects: header, symbol blocks and records, journal records, with its size and
 // small constructors: a block is made from where it starts, a symbol record has its size alone, the others are read from bytes. A journal record also has a
 // writer.
+#![tactic(auto)]
+
 ghost use Rattle.std.specs.Prelude.{◌≡◌, ◌+◌, ◌-◌, ◌≤◌, ◌<◌, length};
 ghost use Rattle.std.proofs.lemmas.List.Edits.{sets};
 ghost use Rattle.records.specs.Sizes.{header_size, journal_record_size};

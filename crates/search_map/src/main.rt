@@ -1,5 +1,7 @@
 // The search program: reads a window and then a map from standard input, and writes the blocks walked, the count found and a line for each slot found; or the
 // refusal. The search is `find`'s. What is here follows the links once more for the lines, with a test before every read.
+#![tactic(auto)]
+
 ghost use Rattle.std.specs.Prelude.{◌+◌, ◌≤◌, ◌<◌};
 
 use find::SearchAnswer;

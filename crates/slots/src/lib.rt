@@ -1,4 +1,6 @@
 // Slots, the index blocks that have them, and the objects that they point to: a type for each, with its size and small constructors.
+#![tactic(auto)]
+
 ghost use Rattle.std.specs.Prelude.{◌≡◌, cond, ◌+◌, ◌-◌, ◌*◌, ◌≤◌, ◌<◌, length};
 ghost use Rattle.std.proofs.lemmas.List.Edits.{sets};
 ghost use Rattle.records.specs.Sizes.{slot_size, object_header_size, block_cells, link_size};

@@ -1,5 +1,7 @@
 // The C interface. A slice passes as a pointer and then its length, a `&mut u32` as a pointer. Every call takes any bytes and numbers at all, returns
 // document 01's number, and writes every out parameter, on a refusal too. hosts/include/taffrail.h is its declaration for C.
+#![tactic(auto)]
+
 ghost use Rattle.taffrail.specs.Calls.{window_from, CChecked, CSearched, Wrote, CAdded, CRemoved, CReinstated};
 
 use windows::Window;

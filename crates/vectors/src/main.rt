@@ -25,6 +25,8 @@
 //  20  write a case's number a and version b
 //  21  write the 32 bits at a of the map
 //  22  write entry a of the list
+#![tactic(auto)]
+
 mod calls;
 mod desk;
 mod lines;

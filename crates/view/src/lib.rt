@@ -1,4 +1,6 @@
 // The reader's view of a lent map: the slice and its checked length, together.
+#![tactic(auto)]
+
 ghost use Rattle.view.specs.Views.{Viewed, FoundIn, SearchedView};
 
 use find::SearchAnswer;

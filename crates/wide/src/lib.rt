@@ -1,5 +1,7 @@
 // What OCAD 9, 10 and 11 have of their own: slots of 40 bytes, the index blocks that have them, the objects that they point to, and symbol records; and whether
 // one of them is good.
+#![tactic(auto)]
+
 ghost use Rattle.std.specs.Prelude.{◌≡◌, ℕ, ◌+◌, ◌*◌, ◌≤◌, ◌<◌, length};
 ghost use Rattle.numbers.specs.Bytes.{u32_at};
 ghost use Rattle.records.specs.Sizes.{wide_block_size, wide_page, wide_slot_size, wide_header_size, block_cells, link_size};

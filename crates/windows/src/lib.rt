@@ -1,4 +1,6 @@
 // Rectangles and windows: the least rectangle over an object's pairs, and whether a rectangle meets a window.
+#![tactic(auto)]
+
 ghost use Rattle.std.specs.Prelude.{◌≡◌, ◌+◌, ◌-◌, ◌*◌, ◌≤◌, ◌<◌, length};
 ghost use Rattle.numbers.specs.Coordinates.{unmarked};
 ghost use Rattle.records.specs.Sizes.{object_header_size, pair_size, window_size};

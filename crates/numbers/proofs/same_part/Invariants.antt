@@ -1,0 +1,10 @@
+-- `numbers::same_part` meets its contract. The invariant: `alike` tells of the bytes so far. Assumes nothing.
+use Prim.Native.Nat.{◌≤◌, ◌-◌}
+use Rattle.numbers.specs.Bytes.{Alike, Tells}
+use Rattle.numbers.proofs.same_part.Given as goal
+
+abbrev pub invariant-loop-i : goal.invariant-loop-i
+invariant-loop-i l = (l.from ≤ l.i) × (l.i ≤ l.to) × Tells l.alike (Alike l.a l.b l.from l.i)
+
+abbrev pub decreases-loop-i : goal.decreases-loop-i
+decreases-loop-i l = l.to - l.i
