@@ -20,11 +20,11 @@ overflow_cast-list c =
 
 pub overflow_add-list-in-loop-i : goal.overflow_add-list-in-loop-i
 overflow_add-list-in-loop-i c =
-    omega (arith, slice-write-list c)
+    omega (arith, c.loop-i.invariant.kept, c.requires.0, c.loop-i-test.true)
 
 pub offset_bounds-list-before : goal.offset_bounds-list-before
 offset_bounds-list-before c =
-    omega (arith, slice-write-list c)
+    omega (arith, c.loop-i.invariant.kept, c.requires.0, c.loop-i-test.true)
 
 -- there is room for a word's
 pub bounds-list-before : goal.bounds-list-before

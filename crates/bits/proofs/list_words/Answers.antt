@@ -56,7 +56,7 @@ loop-i-smaller c =
 pub loop-i-preserved : goal.loop-i-preserved
 loop-i-preserved c =
     let v = c.loop-i.invariant in
-    elim c.if-x.branch [ then-x w ↦ words-turn v c.loop-i-test.true (rw w.0.taken (w.6 ∙ w.2.ensures.0)) (rw w.0.taken (w.5 ∙ w.2.ensures.1)) | else-x w ↦ words-turn v c.loop-i-test.true (w.6 ∙ w.2.ensures.0) (w.5 ∙ w.2.ensures.1) ]
+    elim c.if-x.branch [ then-x w ↦ words-turn v c.loop-i-test.true (rw w.if-x.true (w.d-is ∙ w.list_full-d.ensures.0)) (rw w.if-x.true (w.list-is ∙ w.list_full-d.ensures.1)) | else-x w ↦ words-turn v c.loop-i-test.true (w.d-is ∙ w.list_word-d.ensures.0) (w.list-is ∙ w.list_word-d.ensures.1) ]
 
 pub shape_of-list : goal.shape_of-list
 shape_of-list c =
