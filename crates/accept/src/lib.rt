@@ -31,7 +31,7 @@ use slots::IndexBlock;
 use wide_slots::judge_wide_slots;
 
 // What the check answers. Refusals carry document 01's number and place.
-#[derive(Drop)]
+#[derive(Clone, Copy)]
 pub enum Verdict {
     Accepted { blocks: usize },
     Refused { number: u32, place: u32 },
@@ -39,7 +39,7 @@ pub enum Verdict {
 
 // What the examination for an edit answers: accepted, with the number of index blocks and the first free slot, 256 times the blocks where none is free; or
 // accepted and of 9 to 11, which no edit takes.
-#[derive(Drop)]
+#[derive(Clone, Copy)]
 pub enum ExaminedMap {
     Accepted { blocks: usize, free: usize },
     Wide { blocks: usize },
@@ -47,14 +47,14 @@ pub enum ExaminedMap {
 }
 
 // What 1 to 6 answer: the number of index blocks, or a refusal.
-#[derive(Drop)]
+#[derive(Clone, Copy)]
 pub enum OpenedMap {
     Blocks(usize),
     Refused { number: u32, place: u32 },
 }
 
 // What was judged: good, or at fault with document 01's number and place.
-#[derive(Drop)]
+#[derive(Clone, Copy)]
 pub enum JudgedMap {
     Good,
     Bad { number: u32, place: u32 },

@@ -19,7 +19,7 @@ use records::{Header, LINK};
 use slots::{IndexBlock, Slot};
 
 // What the slots of a block are judged to be: the first at fault, and the first free, 256 where there is none.
-#[derive(Drop)]
+#[derive(Clone, Copy)]
 struct Seen {
     bad: usize,
     free: usize,

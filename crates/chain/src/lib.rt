@@ -10,7 +10,7 @@ use numbers::u32_at;
 use records::Header;
 
 // What a walk answers: the number of blocks; or the place of the first link at fault, and the number of blocks before it.
-#[derive(Drop)]
+#[derive(Clone, Copy)]
 pub enum Walk {
     Blocks(usize),
     Fault { place: usize, taken: usize },
@@ -18,7 +18,7 @@ pub enum Walk {
 
 // A kind of chain: where its first link stands, the bytes of a block, and of a page of its table; and what its blocks keep off: two ranges, and the blocks of
 // another table, filled, of `other_size` bytes each.
-#[derive(Drop)]
+#[derive(Clone, Copy)]
 pub struct Kind {
     pub head: usize,
     pub size: usize,

@@ -27,7 +27,7 @@ use records::{Header, JournalRecord};
 use slots::{IndexBlock, Slot, State, read_slot};
 
 // The Sym that a removal or a reinstatement writes, or none where it is not allowed.
-#[derive(Drop)]
+#[derive(Clone, Copy)]
 pub enum NewSym {
     Write(u16),
     None,

@@ -18,7 +18,7 @@ use journal::{JournalLook, look_up};
 use records::Header;
 
 // What an edit answers: done, or done before, with the slot and the map's length; or a refusal.
-#[derive(Drop)]
+#[derive(Clone, Copy)]
 pub enum EditAnswer {
     Done { slot: u32, length: u32 },
     Before { slot: u32, length: u32 },
@@ -98,7 +98,7 @@ pub fn refused(number: u32) -> EditAnswer
 
 // How an edit starts: refused by the check, for its layout or for its journal; or its number is held, by a record of this kind and slot; or it is new, in a
 // map of so many index blocks and a journal of so many records, with its first free slot.
-#[derive(Drop)]
+#[derive(Clone, Copy)]
 pub enum EditStart {
     Refused {
         number: u32,

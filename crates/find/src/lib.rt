@@ -18,7 +18,7 @@ use slots::IndexBlock;
 use windows::{Window, window_good};
 
 // What a search answers: the count found and the blocks walked; or the count that the list is too short for; or a refusal.
-#[derive(Drop)]
+#[derive(Clone, Copy)]
 pub enum SearchAnswer {
     Found { count: u32, blocks: u32 },
     Short { count: u32 },

@@ -16,7 +16,7 @@ use records::JournalRecord;
 use slots::{IndexBlock, Slot};
 
 // What a look into a journal for an edit number answers. `used` is the number of records in use.
-#[derive(Drop)]
+#[derive(Clone, Copy)]
 pub enum JournalLook {
     Malformed,
     Held { kind: u32, slot: u32 },
@@ -24,7 +24,7 @@ pub enum JournalLook {
 }
 
 // What the pass over the records in use answers: one is not good; or how many they are, and the one that holds the edit number, all zero where none does.
-#[derive(Drop)]
+#[derive(Clone, Copy)]
 pub enum JudgedJournal {
     Bad,
     Good { used: usize, held: JournalRecord },

@@ -45,7 +45,7 @@ fn look_in_row(m: &[u8], used: usize, version: u16, index: &[u32], from: usize, 
 }
 
 // What the slots of a block, or of all blocks, are: the first at fault; and, where none is, how many are found.
-#[derive(Drop)]
+#[derive(Clone, Copy)]
 pub struct Looked {
     pub bad: usize,
     pub count: usize,

@@ -15,7 +15,7 @@ use slots::Slot;
 use windows::{Rectangle, Window, meets_window};
 
 // What a word's slots are: the first at fault, 64 where none is. Where none is, which of them are live and meet the window, as bits, the first the lowest.
-#[derive(Drop)]
+#[derive(Clone, Copy)]
 pub struct Word {
     pub bits: u64,
     pub bad: usize,

@@ -13,7 +13,7 @@ ghost use Rattle.records.specs.Journals.{record_of, record_bytes, record_for, sh
 use numbers::{put_u32_at, u16_at, u32_at};
 
 // A part of a map that the header names: where it starts and how many bytes it has.
-#[derive(Drop)]
+#[derive(Clone, Copy)]
 pub struct Part {
     pub at: u32,
     pub size: u32,
@@ -33,7 +33,7 @@ impl Part {
 }
 
 // What is read of a map's header, beside the two first links.
-#[derive(Drop)]
+#[derive(Clone, Copy)]
 pub struct Header {
     pub mark: u16,
     pub section: u16,
@@ -179,7 +179,7 @@ impl SymbolRecord {
 }
 
 // A record of a journal. `kind` is the byte and the three zeros behind it, `zeros` the last four bytes.
-#[derive(Drop)]
+#[derive(Clone, Copy)]
 pub struct JournalRecord {
     pub number: u32,
     pub kind: u32,

@@ -46,7 +46,7 @@ impl IndexBlock {
     }
 }
 
-#[derive(Drop)]
+#[derive(Clone, Copy)]
 pub enum State {
     Free,
     Erased,
@@ -54,7 +54,7 @@ pub enum State {
 }
 
 // A slot of an index block. Coordinates are raw; Sym is kept as its sixteen bits.
-#[derive(Drop)]
+#[derive(Clone, Copy)]
 pub struct Slot {
     pub left: u32,
     pub bottom: u32,
@@ -66,7 +66,7 @@ pub struct Slot {
 }
 
 // What the slot reader answers: the fields, which of the three states, and where in the file the slot is.
-#[derive(Drop)]
+#[derive(Clone, Copy)]
 pub struct Found {
     pub slot: Slot,
     pub state: State,
@@ -176,7 +176,7 @@ pub fn len_of(version: u16, k: usize) -> usize
 }
 
 // What is read of an object's header.
-#[derive(Drop)]
+#[derive(Clone, Copy)]
 pub struct ObjectHeader {
     pub sym: u16,
     pub kind: u8,

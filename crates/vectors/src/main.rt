@@ -38,7 +38,7 @@ use lines::show;
 use numbers::u32_at;
 
 // An order of the script.
-#[derive(Drop)]
+#[derive(Clone, Copy)]
 struct Order {
     what: u32,
     a: u32,

@@ -41,7 +41,7 @@ impl WideBlock {
 }
 
 // A slot of 9 to 11. Coordinates are raw; Sym is kept as its 32 bits.
-#[derive(Drop)]
+#[derive(Clone, Copy)]
 pub struct WideSlot {
     pub left: u32,
     pub bottom: u32,
@@ -88,7 +88,7 @@ impl WideSlot {
 }
 
 // What is read of an object's header.
-#[derive(Drop)]
+#[derive(Clone, Copy)]
 pub struct WideObject {
     pub sym: u32,
     pub kind: u8,

@@ -11,7 +11,7 @@ use numbers::{i32_at, signed_at_most, signed32_of, u32_at, without_marks};
 use slots::ObjectHeader;
 
 // A rectangle of raw coordinates.
-#[derive(Drop)]
+#[derive(Clone, Copy)]
 pub struct Rectangle {
     pub left: u32,
     pub bottom: u32,
@@ -98,7 +98,7 @@ pub fn least_rectangle(part: &[u8], items: usize) -> Rectangle
 }
 
 // A window, in 0.01 mm.
-#[derive(Drop)]
+#[derive(Clone, Copy)]
 pub struct Window {
     pub left: i32,
     pub bottom: i32,
