@@ -17,8 +17,8 @@ overflow_add-last c =
 
 pub loop-b-preserved : goal.loop-b-preserved
 loop-b-preserved c =
-    let last : c.if-t-b-ne0.new ≡ end_of c.args.size (last_below c.args.t.now (c.loop-b.b + 1)) = let l = c.loop-b in
-    elim c.if-t-b-ne0.branch [ then-t-b-ne0 w ↦ w.2 ∙ last-full l.invariant.3 w.0.true | else-t-b-ne0 w ↦ w.1 ∙ last_empty l.invariant.3 w.0.false l.invariant.2 ] in
+    let last : c.if-t-b-ne0.last ≡ end_of c.args.size (last_below c.args.t.now (c.loop-b.b + 1)) = let l = c.loop-b in
+    elim c.if-t-b-ne0.branch [ then-t-b-ne0 w ↦ w.last-is ∙ last-full l.invariant.3 w.if-t-b-ne0.true | else-t-b-ne0 w ↦ w.last-is ∙ last_empty l.invariant.3 w.if-t-b-ne0.false l.invariant.2 ] in
     let l = c.loop-b in
     (omega arith, simp length-set l.invariant.1, last, carried-more l.invariant.3 (omega arith) last)
 

@@ -29,4 +29,4 @@ shape_of-order c =
 
 pub returns : goal.returns
 returns c =
-    c.loop-k.invariant.4 k (omega arith)
+    λ k l. c.loop-k.invariant.4 k (omega arith)

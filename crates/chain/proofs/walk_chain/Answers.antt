@@ -42,21 +42,21 @@ overflow_add-t c =
     let read : c.wide-p.result ≡ u32_at c.args.m.now c.loop-kind.at = c.wide-p.ensures.0 ∙ c.u32_at.ensures in
     let on : On c.loop-kind.invariant.2 read = let l = c.loop-kind in
     walk-on l.invariant.2 read l.invariant.1.bounds.block-least l.invariant.1.page-least l.invariant.1.page-most l.invariant.1.wide c.if-p-eq0.false c.can_be_block.ensures c.if-can_be_block.true in
-    omega (arith, on.ranges)
+    omega (arith, on.fits)
 
 pub offset_bounds-t-p : goal.offset_bounds-t-p
 offset_bounds-t-p c =
     let read : c.wide-p.result ≡ u32_at c.args.m.now c.loop-kind.at = c.wide-p.ensures.0 ∙ c.u32_at.ensures in
     let on : On c.loop-kind.invariant.2 read = let l = c.loop-kind in
     walk-on l.invariant.2 read l.invariant.1.bounds.block-least l.invariant.1.page-least l.invariant.1.page-most l.invariant.1.wide c.if-p-eq0.false c.can_be_block.ensures c.if-can_be_block.true in
-    omega (arith, on.ranges)
+    omega (arith, on.fits)
 
 pub bounds-t-p : goal.bounds-t-p
 bounds-t-p c =
     let read : c.wide-p.result ≡ u32_at c.args.m.now c.loop-kind.at = c.wide-p.ensures.0 ∙ c.u32_at.ensures in
     let on : On c.loop-kind.invariant.2 read = let l = c.loop-kind in
     walk-on l.invariant.2 read l.invariant.1.bounds.block-least l.invariant.1.page-least l.invariant.1.page-most l.invariant.1.wide c.if-p-eq0.false c.can_be_block.ensures c.if-can_be_block.true in
-    on.ranges
+    on.fits
 
 pub overflow_add-n : goal.overflow_add-n
 overflow_add-n c =

@@ -1,0 +1,25 @@
+-- `windows::window_good` meets its contract, in the two cases of its first test. Assumes nothing.
+use borrow.Author.Rules.{rules}
+use mathlib.Core.Path.{◌≡◌}
+use mathlib.Core.Bool.{true, false}
+use lib.Signed.{le_z}
+use mir.Facts.{to_z-of_z}
+use Rattle.windows.proofs.Windows.{WindowFits}
+use Rattle.windows.specs.Windows.{window_good}
+use Rattle.windows.proofs.window_good.Goals as goal
+
+pub returns-then-left-right : goal.returns-then-left-right
+unfolding window_good
+returns-then-left-right c =
+    let w = c.args.w in
+    let g : WindowFits w = search rules in
+    let e : le_z w.false w.right ≡ true = rw (to_z-of_z g.false, to_z-of_z g.right) at c.if-left-right.true in
+    rw (to_z-of_z g.bottom, to_z-of_z g.top, e)
+
+pub returns-else-left-right : goal.returns-else-left-right
+unfolding window_good
+returns-else-left-right c =
+    let w = c.args.w in
+    let g : WindowFits w = search rules in
+    let e : le_z w.false w.right ≡ false = rw (to_z-of_z g.false, to_z-of_z g.right) at c.if-left-right.false in
+    rw e
