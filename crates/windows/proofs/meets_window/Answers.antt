@@ -10,27 +10,27 @@ overflow_cast-left c =
 pub overflow_cast-left-2 : goal.overflow_cast-left-2
 overflow_cast-left-2 c =
     let fits : WindowFits c.args.w = search rules in
-    cast_fits (fits.right
+    cast_fits fits.right
 
 pub overflow_mul-left : goal.overflow_mul-left
 overflow_mul-left c =
     let fits : WindowFits c.args.w = search rules in
-    times-fits (fits.right
+    times-fits fits.right
 
 pub overflow_add-left : goal.overflow_add-left
 overflow_add-left c =
     let fits : WindowFits c.args.w = search rules in
-    plus-fits (fits.right
+    plus-fits fits.right
 
 pub overflow_cast-right : goal.overflow_cast-right
 overflow_cast-right c =
     let fits : WindowFits c.args.w = search rules in
-    cast_fits (fits.false
+    cast_fits fits.left
 
 pub overflow_mul-right : goal.overflow_mul-right
 overflow_mul-right c =
     let fits : WindowFits c.args.w = search rules in
-    times-fits (fits.false
+    times-fits fits.left
 
 pub overflow_cast-right-2 : goal.overflow_cast-right-2
 overflow_cast-right-2 c =
@@ -43,27 +43,27 @@ overflow_cast-bottom c =
 pub overflow_cast-bottom-2 : goal.overflow_cast-bottom-2
 overflow_cast-bottom-2 c =
     let fits : WindowFits c.args.w = search rules in
-    cast_fits (fits.top
+    cast_fits fits.top
 
 pub overflow_mul-bottom : goal.overflow_mul-bottom
 overflow_mul-bottom c =
     let fits : WindowFits c.args.w = search rules in
-    times-fits (fits.top
+    times-fits fits.top
 
 pub overflow_add-bottom : goal.overflow_add-bottom
 overflow_add-bottom c =
     let fits : WindowFits c.args.w = search rules in
-    plus-fits (fits.top
+    plus-fits fits.top
 
 pub overflow_cast-top : goal.overflow_cast-top
 overflow_cast-top c =
     let fits : WindowFits c.args.w = search rules in
-    cast_fits (fits.bottom
+    cast_fits fits.bottom
 
 pub overflow_mul-top : goal.overflow_mul-top
 overflow_mul-top c =
     let fits : WindowFits c.args.w = search rules in
-    times-fits (fits.bottom
+    times-fits fits.bottom
 
 pub overflow_cast-top-2 : goal.overflow_cast-top-2
 overflow_cast-top-2 c =
@@ -76,6 +76,6 @@ returns c =
     let g = fits in
     four t c.args.w
     (value-at-most t.left (sfits_of c.signed32_of.type_inv) c.signed32_of.ensures g.right)
-    (value-at-least t.right (sfits_of c.signed32_of-2.type_inv) c.signed32_of-2.ensures g.false)
+    (value-at-least t.right (sfits_of c.signed32_of-2.type_inv) c.signed32_of-2.ensures g.left)
     (value-at-most t.bottom (sfits_of c.signed32_of-3.type_inv) c.signed32_of-3.ensures g.top)
     (value-at-least t.top (sfits_of c.signed32_of-4.type_inv) c.signed32_of-4.ensures g.bottom)

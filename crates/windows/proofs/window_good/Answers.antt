@@ -13,7 +13,7 @@ unfolding window_good
 returns-then-left-right c =
     let w = c.args.w in
     let g : WindowFits w = search rules in
-    let e : le_z w.false w.right ≡ true = rw (to_z-of_z g.false, to_z-of_z g.right) at c.if-left-right.true in
+    let e : le_z w.left w.right ≡ true = rw (to_z-of_z g.left, to_z-of_z g.right) at c.if-left-right.true in
     rw (to_z-of_z g.bottom, to_z-of_z g.top, e)
 
 pub returns-else-left-right : goal.returns-else-left-right
@@ -21,5 +21,5 @@ unfolding window_good
 returns-else-left-right c =
     let w = c.args.w in
     let g : WindowFits w = search rules in
-    let e : le_z w.false w.right ≡ false = rw (to_z-of_z g.false, to_z-of_z g.right) at c.if-left-right.false in
+    let e : le_z w.left w.right ≡ false = rw (to_z-of_z g.left, to_z-of_z g.right) at c.if-left-right.false in
     rw e
