@@ -27,11 +27,11 @@ use Rattle.chain.proofs.Tables.{table_meets_lem}
 use Rattle.judge.specs.Rules.{Family, touches_of}
 
 -- a call answered r, which is b: what a branch on `!r` tells of b
-pub fails : {r b : Bool} → r ≡ b → not r ≡ true → b ≡ false
-fails {r} e t = sym e ∙ not-true r t
+pub fails : {r b : Bool} → r ≡ b → r ≡ false → b ≡ false
+fails e t = sym e ∙ t
 
-pub passes : {r b : Bool} → r ≡ b → not r ≡ false → b ≡ true
-passes {r} e t = sym e ∙ not-false r t
+pub passes : {r b : Bool} → r ≡ b → r ≡ true → b ≡ true
+passes e t = sym e ∙ t
 
 -- the table's test of a range is the chain's
 pub same-touch : (f : Family) {m : List ℕ} {n : ℕ} {t : List ℕ} → EndsTable f.block index_head f.page m n t → ends_meet f.block t ≡ touches_of f m n
