@@ -6,20 +6,20 @@ use mathlib.Core.List.{List}
 use Prim.Native.Nat.{ℕ}
 use Rattle.accept.specs.declared.Verdict.{Verdict}
 use Rattle.accept.specs.Verdicts.{number_of, place_of, Checked}
-use Rattle.accept.specs.Contracts.{Says}
+use Rattle.accept.specs.Clauses.{Says}
 use Rattle.accept.specs.contracts.check as check
 use Rattle.accept.specs.contracts.number as number
 use Rattle.accept.specs.contracts.place as place
 
 -- ---- what is said
 
-pub check-says : Says check.ended (λ M 𝓤. check.clauses 𝓤) (λ κs (m, (used, _)) r e. Checked m.now used r)
+pub check-says : Says check.ended (λ M 𝓤 𝓛. check.clauses 𝓛) (λ κs (m, (used, _)) r e. Checked m.now used r)
 check-says M 𝓤 𝓛 mem run = refl
 
-pub number-says : Says number.ended (λ M 𝓤. number.clauses 𝓤) (λ κs (v, _) r e. r ≡ number_of v)
+pub number-says : Says number.ended (λ M 𝓤 𝓛. number.clauses 𝓛) (λ κs (v, _) r e. r ≡ number_of v)
 number-says M 𝓤 𝓛 mem run = refl
 
-pub place-says : Says place.ended (λ M 𝓤. place.clauses 𝓤) (λ κs (v, _) r e. r ≡ place_of v)
+pub place-says : Says place.ended (λ M 𝓤 𝓛. place.clauses 𝓛) (λ κs (v, _) r e. r ≡ place_of v)
 place-says M 𝓤 𝓛 mem run = refl
 
 -- ---- one answer each

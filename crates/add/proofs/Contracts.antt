@@ -3,7 +3,7 @@
 use mathlib.Core.Path.{◌≡◌, refl}
 use mathlib.Core.List.{List}
 use Prim.Native.Nat.{ℕ}
-use Rattle.accept.specs.Contracts.{Says}
+use Rattle.accept.specs.Clauses.{Says}
 use Rattle.edit.specs.declared.EditAnswer.{EditAnswer}
 use Rattle.edit.proofs.Contracts.{edited-one}
 use Rattle.add.specs.Adds.{added, Added}

@@ -3,7 +3,7 @@
 use mathlib.Core.Path.{◌≡◌, refl}
 use mathlib.Core.List.{List}
 use Prim.Native.Nat.{ℕ}
-use Rattle.accept.specs.Contracts.{Says}
+use Rattle.accept.specs.Clauses.{Says}
 use Rattle.accept.proofs.Contracts.{one}
 use Rattle.edit.specs.declared.EditAnswer.{EditAnswer}
 use Rattle.edit.specs.Edits.{number_of, place_of, before_of, slot_no, length_of, Outcome, Edited}

@@ -4,7 +4,7 @@ use mathlib.Core.Path.{◌≡◌, refl}
 use mathlib.Core.List.{List}
 use Prim.Native.Nat.{ℕ}
 use Rattle.windows.specs.declared.Window.{Window}
-use Rattle.accept.specs.Contracts.{Says}
+use Rattle.accept.specs.Clauses.{Says}
 use Rattle.accept.proofs.Contracts.{one}
 use Rattle.edit.specs.Edits.{Outcome}
 use Rattle.add.specs.Adds.{added}

@@ -5,7 +5,7 @@ use mathlib.Core.List.{List}
 use Prim.Native.Nat.{ℕ}
 use denote.Ref.{Bor}
 use Rattle.windows.specs.declared.Window.{Window}
-use Rattle.accept.specs.Contracts.{Says}
+use Rattle.accept.specs.Clauses.{Says}
 use Rattle.accept.proofs.Contracts.{one}
 use Rattle.find.specs.declared.SearchAnswer.{SearchAnswer}
 use Rattle.view.specs.declared.MapView.{MapView}

@@ -1,0 +1,13 @@
+-- `accept::entries::judge_block_entries` meets its contract, by the laws of the look at the cells of a block. The measure is what is left of the entries. Assumes nothing.
+use Prim.Native.Nat.{◌-◌}
+use Rattle.records.specs.Sizes.{entry_size}
+use Rattle.chain.specs.Cells.{cell_in}
+use Rattle.accept.specs.Opens.{entry_fault}
+use Rattle.accept.proofs.Looking.{Looking}
+use Rattle.accept.proofs.entries.judge_block_entries.Given as goal
+
+abbrev pub invariant-loop-e : goal.invariant-loop-e
+invariant-loop-e l = Looking (cell_in l.block entry_size) 256 (entry_fault l.wide l.m l.used l.index) l.at l.e
+
+abbrev pub decreases-loop-e : goal.decreases-loop-e
+decreases-loop-e l = 256 - l.e

@@ -1,0 +1,26 @@
+-- `accept::fields::judge_header` meets its contract: the three tests of the length, then the fields. Assumes nothing.
+use borrow.Author.Tests.{le-leb, lt-leb}
+use Rattle.judge.specs.Judging.{length_good}
+use Rattle.accept.specs.Verdicts.{header_judged}
+use Rattle.accept.proofs.fields.judge_header.Goals as goal
+
+pub returns-then-used-lt-SIZE : goal.returns-then-used-lt-SIZE
+unfolding header_judged length_good
+returns-then-used-lt-SIZE c =
+    rw (lt-leb _ _ c.if-used-lt-SIZE.true)
+
+pub returns-then-used-gt-LIMIT : goal.returns-then-used-gt-LIMIT
+unfolding header_judged length_good
+returns-then-used-gt-LIMIT c =
+    rw (le-leb _ _ c.if-used-lt-SIZE.false, lt-leb _ _ c.if-used-gt-LIMIT.true)
+
+pub returns-then-m-used : goal.returns-then-m-used
+unfolding header_judged length_good
+returns-then-m-used c =
+    rw (le-leb _ _ c.if-used-lt-SIZE.false, le-leb _ _ c.if-used-gt-LIMIT.false, lt-leb _ _ c.if-m-used.true)
+
+pub returns : goal.returns
+unfolding header_judged length_good
+returns c =
+    rw (le-leb _ _ c.if-used-lt-SIZE.false, le-leb _ _ c.if-used-gt-LIMIT.false, le-leb _ _ c.if-m-used.false, ← c.of.ensures)
+    c.judge_fields.ensures
