@@ -9,7 +9,7 @@ use Rattle.edit.proofs.Contracts.{edited-one}
 use Rattle.add.specs.Adds.{added, Added}
 use Rattle.add.specs.contracts.add as add
 
-pub add-says : Says add.ended (λ M 𝓤. add.clauses 𝓤)
+pub add-says : Says add.ended (λ M 𝓤 𝓛. add.clauses 𝓛)
     (λ κs (m, (used, (j, (e, (o, _))))) r (m', (_, (j', _))). Added m.now used j.now e o.now r m'.now j'.now)
 add-says M 𝓤 𝓛 mem run = refl
 

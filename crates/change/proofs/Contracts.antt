@@ -12,11 +12,11 @@ use Rattle.change.specs.contracts.reinstate as reinstate
 
 -- ---- what is said
 
-pub remove-says : Says remove.ended (λ M 𝓤. remove.clauses 𝓤)
+pub remove-says : Says remove.ended (λ M 𝓤 𝓛. remove.clauses 𝓛)
     (λ κs (m, (used, (j, (e, (s, _))))) r (m', (_, (j', _))). Removed m.now used j.now e s r m'.now j'.now)
 remove-says M 𝓤 𝓛 mem run = refl
 
-pub reinstate-says : Says reinstate.ended (λ M 𝓤. reinstate.clauses 𝓤)
+pub reinstate-says : Says reinstate.ended (λ M 𝓤 𝓛. reinstate.clauses 𝓛)
     (λ κs (m, (used, (j, (e, (s, _))))) r (m', (_, (j', _))). Reinstated m.now used j.now e s r m'.now j'.now)
 reinstate-says M 𝓤 𝓛 mem run = refl
 

@@ -15,19 +15,19 @@ use Rattle.edit.specs.contracts.length as length
 
 -- ---- what is said
 
-pub number-says : Says number.ended (λ M 𝓤. number.clauses 𝓤) (λ κs (a, _) r e. r ≡ number_of a)
+pub number-says : Says number.ended (λ M 𝓤 𝓛. number.clauses 𝓛) (λ κs (a, _) r e. r ≡ number_of a)
 number-says M 𝓤 𝓛 mem run = refl
 
-pub place-says : Says place.ended (λ M 𝓤. place.clauses 𝓤) (λ κs (a, _) r e. r ≡ place_of a)
+pub place-says : Says place.ended (λ M 𝓤 𝓛. place.clauses 𝓛) (λ κs (a, _) r e. r ≡ place_of a)
 place-says M 𝓤 𝓛 mem run = refl
 
-pub before-says : Says before.ended (λ M 𝓤. before.clauses 𝓤) (λ κs (a, _) r e. r ≡ before_of a)
+pub before-says : Says before.ended (λ M 𝓤 𝓛. before.clauses 𝓛) (λ κs (a, _) r e. r ≡ before_of a)
 before-says M 𝓤 𝓛 mem run = refl
 
-pub slot-says : Says slot.ended (λ M 𝓤. slot.clauses 𝓤) (λ κs (a, _) r e. r ≡ slot_no a)
+pub slot-says : Says slot.ended (λ M 𝓤 𝓛. slot.clauses 𝓛) (λ κs (a, _) r e. r ≡ slot_no a)
 slot-says M 𝓤 𝓛 mem run = refl
 
-pub length-says : Says length.ended (λ M 𝓤. length.clauses 𝓤) (λ κs (a, _) r e. r ≡ length_of a)
+pub length-says : Says length.ended (λ M 𝓤 𝓛. length.clauses 𝓛) (λ κs (a, _) r e. r ≡ length_of a)
 length-says M 𝓤 𝓛 mem run = refl
 
 -- ---- one answer

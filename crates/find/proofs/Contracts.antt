@@ -19,7 +19,7 @@ use Rattle.find.specs.contracts.checked_length as checked-length
 
 -- ---- what is said
 
-pub search-says : Says search.ended (λ M 𝓤. search.clauses 𝓤)
+pub search-says : Says search.ended (λ M 𝓤 𝓛. search.clauses 𝓛)
     (λ κs (m, (used, (w, (l, _)))) r (_, (_, (_, (after, _)))). Searched m.now used w l.now r after.now)
 search-says M 𝓤 𝓛 mem run = refl
 
@@ -27,16 +27,16 @@ pub search-input-says : Says search-input.ended (λ M 𝓤. search-input.clauses
     (λ κs (i, (l, _)) r (_, (after, _)). SearchedInput i.now l.now r after.now)
 search-input-says M 𝓤 𝓛 mem run = refl
 
-pub number-says : Says number.ended (λ M 𝓤. number.clauses 𝓤) (λ κs (a, _) r e. r ≡ number_of a)
+pub number-says : Says number.ended (λ M 𝓤 𝓛. number.clauses 𝓛) (λ κs (a, _) r e. r ≡ number_of a)
 number-says M 𝓤 𝓛 mem run = refl
 
-pub place-says : Says place.ended (λ M 𝓤. place.clauses 𝓤) (λ κs (a, _) r e. r ≡ place_of a)
+pub place-says : Says place.ended (λ M 𝓤 𝓛. place.clauses 𝓛) (λ κs (a, _) r e. r ≡ place_of a)
 place-says M 𝓤 𝓛 mem run = refl
 
-pub count-says : Says count.ended (λ M 𝓤. count.clauses 𝓤) (λ κs (a, _) r e. r ≡ count_of a)
+pub count-says : Says count.ended (λ M 𝓤 𝓛. count.clauses 𝓛) (λ κs (a, _) r e. r ≡ count_of a)
 count-says M 𝓤 𝓛 mem run = refl
 
-pub blocks-says : Says blocks.ended (λ M 𝓤. blocks.clauses 𝓤) (λ κs (a, _) r e. r ≡ blocks_of a)
+pub blocks-says : Says blocks.ended (λ M 𝓤 𝓛. blocks.clauses 𝓛) (λ κs (a, _) r e. r ≡ blocks_of a)
 blocks-says M 𝓤 𝓛 mem run = refl
 
 pub checked-length-says : Says checked-length.ended (λ M 𝓤. checked-length.clauses 𝓤) (λ κs (m, (used, _)) r e. r ≡ checked_length m.now used)

@@ -16,7 +16,7 @@ use Rattle.view.specs.contracts.search_view as search-view
 
 -- ---- what is said
 
-pub view-says : Says view.ended (λ M 𝓤. view.clauses 𝓤) (λ κs (bytes, (used, _)) r e. Viewed bytes used r)
+pub view-says : Says view.ended (λ M 𝓤 𝓛. view.clauses 𝓛) (λ κs (bytes, (used, _)) r e. Viewed bytes used r)
 view-says M 𝓤 𝓛 mem run = refl
 
 pub find-in-says : Says find-in.ended (λ M 𝓤. find-in.clauses 𝓤)

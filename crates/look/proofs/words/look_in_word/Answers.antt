@@ -13,7 +13,7 @@ use Rattle.look.specs.Found.{live_at}
 use Rattle.look.specs.Looks.{slot_from, live_from}
 use Rattle.look.proofs.Looks.{one_at_most, Looks, looks-start, looks-low, looks_on, looks-past, looks-done, unwanted-free, unwanted-erased, wanted-live}
 use Rattle.look.proofs.words.look_in_word.Goals as goal
-use Rattle.look.proofs.words.look_in_word.Goals.{else-t-ne0, then-t-ne0}
+use Rattle.look.proofs.words.look_in_word.Goals.{then-t-ne0+else-bad_slot+then-t-ne0-2, then-t-ne0+else-bad_slot+else-t-ne0-2, else-t-ne0}
 
 pub loop-j-init : goal.loop-j-init
 unfolding slot_from
@@ -74,16 +74,20 @@ unfolding slot_from
 loop-j-preserved c =
     let good : let a = c.args in bad_slot (ends_meet index_block_size a.index.now) a.m.now a.used a.version c.loop-j.at ≡ false = let at = c.loop-j.at in
     let a = c.args in
-    elim c.if-t-ne0.branch [ then-t-ne0 w ↦ sym (w.1.ensures at c.at-t.ensures) ∙ w.2.left | else-t-ne0 w ↦ (⊎_elim
-    (λ w. sym (w.1.ensures at c.at-t.ensures) ∙ w.2.left)
-    (λ w. fault-free (ends_meet index_block_size a.index.now) a.m.now a.used a.version at c.at-t.ensures w.0.left)) w ] in
+    elim c.if-t-ne0.branch [
+      | then-t-ne0+else-bad_slot+then-t-ne0-2 w ↦ sym (w.bad_slot.ensures at c.at-t.ensures) ∙ w.if-bad_slot.false
+      | then-t-ne0+else-bad_slot+else-t-ne0-2 w ↦ sym (w.bad_slot.ensures at c.at-t.ensures) ∙ w.if-bad_slot.false
+      | else-t-ne0 w ↦ fault-free (ends_meet index_block_size a.index.now) a.m.now a.used a.version at c.at-t.ensures w.if-t-ne0.false
+    ] in
     let found : let a = c.args in Looks (live_from narrow a.m.now a.w a.from) c.if-t-ne0.bits (c.loop-j.j + 1) = let l = c.loop-j in
     let a = c.args in
     let h = c.loop-j-test.true in
     let here = ap (live_at narrow a.m.now a.w) (sym l.invariant.0.here) in
-    elim c.if-t-ne0.branch [ then-t-ne0 w ↦ rw w.6 (looks_on l.invariant.1 h w.5.result (here ∙ wanted-live a.m.now a.w l.at c.at-t.ensures w.0.taken w.4.taken ∙ sym w.5.ensures)) | else-t-ne0 w ↦ (⊎_elim
-    (λ w. rw w.5 (looks-past l.invariant.1 h (here ∙ unwanted-erased a.m.now a.w l.at c.at-t.ensures w.0.taken w.4.left)))
-    (λ w. rw w.1 (looks-past l.invariant.1 h (here ∙ unwanted-free a.m.now a.w l.at c.at-t.ensures w.0.left)))) w ] in
+    elim c.if-t-ne0.branch [
+      | then-t-ne0+else-bad_slot+then-t-ne0-2 w ↦ rw w.bits-is (looks_on l.invariant.1 h w.meets_window-hit.result (here ∙ wanted-live a.m.now a.w l.at c.at-t.ensures w.if-t-ne0.true w.if-t-ne0-2.true ∙ sym w.meets_window-hit.ensures))
+      | then-t-ne0+else-bad_slot+else-t-ne0-2 w ↦ rw w.bits-is (looks-past l.invariant.1 h (here ∙ unwanted-erased a.m.now a.w l.at c.at-t.ensures w.if-t-ne0.true w.if-t-ne0-2.false))
+      | else-t-ne0 w ↦ rw w.bits-is (looks-past l.invariant.1 h (here ∙ unwanted-free a.m.now a.w l.at c.at-t.ensures w.if-t-ne0.false))
+    ] in
     let v = c.loop-j.invariant.0 in
     (look-on v c.loop-j-test.true refl good (omega (arith, v.here)), found)
 
