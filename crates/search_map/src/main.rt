@@ -2,33 +2,47 @@
 // refusal. The search is `find`'s. What is here follows the links once more for the lines, with a test before every read.
 #![tactic(auto)]
 
-ghost use Rattle.std.specs.Prelude.{◌+◌, ◌≤◌, ◌<◌};
+ghost use Rattle.std.specs.Prelude.{◌+◌, ◌≤◌, ◌<◌, length, IfOk};
 
 use find::SearchAnswer;
 use judge::slot_place;
-use libc::{STDIN_FILENO, STDOUT_FILENO};
 use numbers::{u16_at, u32_at};
 use records::{Header, is_wide};
 use slots::{IndexBlock, Slot};
+use std::io;
+use std::io::Read;
 use wide::WideSlot;
 use windows::Window;
 
+// Reads until the buffer is full or the input ends, and returns how many bytes it put at the buffer's start.
+fn read_full(input: &mut impl Read, buffer: &mut [u8]) -> io::Result<usize>
+    ensures { IfOk result (λ n. n ≤ length buffer.new) }
+{
+    let mut done = 0;
+    while done < buffer.len() {
+        let n = input.read(&mut buffer[done..])?;
+        if n == 0 {
+            return Ok(done);
+        }
+        done += n;
+    }
+    Ok(done)
+}
+
 // A word, a number and a newline.
-fn write_line(word: &[u8], n: u32) {
-    io::write_all(STDOUT_FILENO, word);
-    io::print_decimal(STDOUT_FILENO, n as u64);
-    io::write_all(STDOUT_FILENO, b"\n");
+fn write_line(rt: &impl Print, word: &[u8], n: u32) -> io::Result<()> {
+    rt.write_all(word)?;
+    println!(rt; "{n}")
 }
 
 // A Sym of 16 bits, or one of 32 bits, with its sign: from half the range on it is negative.
-fn write_sym(sym: u64, half: u64)
+fn write_sym(rt: &impl Print, sym: u64, half: u64) -> io::Result<()>
     requires { (half ≤ 2147483648) × (sym < half + half) }
 {
     if sym < half {
-        io::print_decimal(STDOUT_FILENO, sym);
+        print!(rt; "{sym}")
     } else {
-        io::write_all(STDOUT_FILENO, b"-");
-        io::print_decimal(STDOUT_FILENO, half + half - sym);
+        print!(rt; "-{}", half + half - sym)
     }
 }
 
@@ -67,71 +81,71 @@ fn version_of(m: &[u8]) -> u16 {
 }
 
 // The Sym and the position of the slot at a place, in 6 to 8.
-fn write_narrow(m: &[u8], at: usize) {
+fn write_narrow(rt: &impl Print, m: &[u8], at: usize) -> io::Result<()> {
     if m.len() < Slot::SIZE {
-        return;
+        return Ok(());
     }
     if m.len() - Slot::SIZE < at {
-        return;
+        return Ok(());
     }
     let t = Slot::at(m, at);
-    write_sym(t.sym as u64, 32768);
-    write_line(b" ", t.position);
+    write_sym(rt, t.sym as u64, 32768)?;
+    write_line(rt, b" ", t.position)
 }
 
 // And in 9 to 11.
-fn write_wide(m: &[u8], at: usize) {
+fn write_wide(rt: &impl Print, m: &[u8], at: usize) -> io::Result<()> {
     if m.len() < WideSlot::SIZE {
-        return;
+        return Ok(());
     }
     if m.len() - WideSlot::SIZE < at {
-        return;
+        return Ok(());
     }
     let t = WideSlot::at(m, at);
-    write_sym(t.sym as u64, 2147483648);
-    write_line(b" ", t.position);
+    write_sym(rt, t.sym as u64, 2147483648)?;
+    write_line(rt, b" ", t.position)
 }
 
 // The line of a slot: its number, its Sym and its position.
-fn write_slot(m: &[u8], s: u32) {
+fn write_slot(rt: &impl Print, m: &[u8], s: u32) -> io::Result<()> {
     let version = version_of(m);
     let block = block_at(m, s as usize / 256);
     let at = slot_place(version, block, s as usize % 256);
-    io::print_decimal(STDOUT_FILENO, s as u64);
-    io::write_all(STDOUT_FILENO, b" ");
+    print!(rt; "{s} ")?;
     if is_wide(version) {
-        write_wide(m, at);
+        write_wide(rt, m, at)
     } else {
-        write_narrow(m, at);
+        write_narrow(rt, m, at)
     }
 }
 
 // The lines of the first slots of a list.
-fn write_slots(m: &[u8], list: &[u32], count: usize) {
+fn write_slots(rt: &impl Print, m: &[u8], list: &[u32], count: usize) -> io::Result<()> {
     let mut i = 0;
     while i < count {
         if i < list.len() {
-            write_slot(m, list[i]);
+            write_slot(rt, m, list[i])?;
         }
         i += 1;
     }
+    Ok(())
 }
 
 // What the program writes of an answer.
-fn write_answer(input: &[u8], list: &[u32], a: SearchAnswer) {
+fn write_answer(rt: &impl Print, input: &[u8], list: &[u32], a: SearchAnswer) -> io::Result<()> {
     match a {
         SearchAnswer::Found { count, blocks } => {
-            write_line(b"blocks ", blocks);
-            write_line(b"found ", count);
+            write_line(rt, b"blocks ", blocks)?;
+            write_line(rt, b"found ", count)?;
             if Window::SIZE <= input.len() {
-                write_slots(&input[Window::SIZE..], list, count as usize);
+                write_slots(rt, &input[Window::SIZE..], list, count as usize)?;
             }
+            Ok(())
         }
-        SearchAnswer::Short { count: _ } => write_line(b"refused 9 at ", 0),
+        SearchAnswer::Short { count: _ } => write_line(rt, b"refused 9 at ", 0),
         SearchAnswer::Refused { number, place } => {
-            io::write_all(STDOUT_FILENO, b"refused ");
-            io::print_decimal(STDOUT_FILENO, number as u64);
-            write_line(b" at ", place);
+            print!(rt; "refused {number}")?;
+            write_line(rt, b" at ", place)
         }
     }
 }
@@ -142,10 +156,10 @@ const INPUT: usize = Window::SIZE + find::PROGRAM_LIMIT + 1;
 // A map of 65,536 bytes has at most so many slots: 10 index blocks of 256.
 const SLOTS: usize = (find::PROGRAM_LIMIT - Header::SIZE) / IndexBlock::SIZE * 256;
 
-fn main() {
+fn main(rt: HostRuntime) -> io::Result<()> {
     let mut input = [0u8; INPUT];
-    let n = io::read_full(STDIN_FILENO, &mut input);
+    let n = read_full(&mut rt.stdin(), &mut input)?;
     let mut list = [0u32; SLOTS];
     let a = find::search_input(&input[..n], &mut list);
-    write_answer(&input[..n], &list, a);
+    write_answer(&rt, &input[..n], &list, a)
 }

@@ -3,7 +3,7 @@ use super::Order;
 use numbers::{put_u16_at, put_u32_at, signed32_of};
 
 // What the orders have set: how much of each buffer is lent or offered, the map's length, and the window.
-#[derive(Drop)]
+#[derive(Clone, Copy)]
 pub struct Desk {
     pub map: usize,
     pub used: usize,

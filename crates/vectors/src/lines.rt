@@ -2,17 +2,17 @@
 ghost use Rattle.std.specs.Prelude.{◌<◌};
 
 use super::Order;
-use libc::STDOUT_FILENO;
 use numbers::u32_at;
+use std::io;
 
 // A word and a number.
-pub(super) fn say(word: &[u8], n: u32) {
-    io::write_all(STDOUT_FILENO, word);
-    io::print_decimal(STDOUT_FILENO, n as u64);
+pub(super) fn say(rt: &impl Print, word: &[u8], n: u32) -> io::Result<()> {
+    rt.write_all(word)?;
+    print!(rt; "{n}")
 }
 
-pub(super) fn end_line() {
-    io::write_all(STDOUT_FILENO, b"\n");
+pub(super) fn end_line(rt: &impl Print) -> io::Result<()> {
+    rt.write_all(b"\n")
 }
 
 fn wide(x: u8) -> u64
@@ -50,58 +50,62 @@ fn sum_list(s: &[u32]) -> u64 {
 }
 
 // The sum over the first bytes of a buffer.
-pub(super) fn say_bytes(word: &[u8], s: &[u8], n: usize) {
+pub(super) fn say_bytes(rt: &impl Print, word: &[u8], s: &[u8], n: usize) -> io::Result<()> {
     if s.len() < n {
-        return;
+        return Ok(());
     }
-    io::write_all(STDOUT_FILENO, word);
-    io::print_decimal(STDOUT_FILENO, sum_bytes(&s[0..n]));
+    rt.write_all(word)?;
+    let sum = sum_bytes(&s[0..n]);
+    print!(rt; "{sum}")
 }
 
 // The sum over the first entries of a list.
-pub(super) fn say_list(word: &[u8], s: &[u32], n: usize) {
+pub(super) fn say_list(rt: &impl Print, word: &[u8], s: &[u32], n: usize) -> io::Result<()> {
     if s.len() < n {
-        return;
+        return Ok(());
     }
-    io::write_all(STDOUT_FILENO, word);
-    io::print_decimal(STDOUT_FILENO, sum_list(&s[0..n]));
+    rt.write_all(word)?;
+    let sum = sum_list(&s[0..n]);
+    print!(rt; "{sum}")
 }
 
 // ---- what is shown
 
-fn show_map(map: &[u8], at: u32) {
+fn show_map(rt: &impl Print, map: &[u8], at: u32) -> io::Result<()> {
     if map.len() < 4 {
-        return;
+        return Ok(());
     }
     if map.len() - 4 < at as usize {
-        return;
+        return Ok(());
     }
-    say(b"map at ", at);
-    say(b" holds ", u32_at(map, at as usize));
-    end_line();
+    say(rt, b"map at ", at)?;
+    say(rt, b" holds ", u32_at(map, at as usize))?;
+    end_line(rt)
 }
 
-fn show_list(list: &[u32], at: u32) {
+fn show_list(rt: &impl Print, list: &[u32], at: u32) -> io::Result<()> {
     let entry = at as usize;
     if entry < list.len() {
-        say(b"entry ", at);
-        say(b" holds ", list[entry]);
-        end_line();
+        say(rt, b"entry ", at)?;
+        say(rt, b" holds ", list[entry])?;
+        end_line(rt)?;
     }
+    Ok(())
 }
 
 // Orders 20 to 22.
-pub(super) fn show(map: &[u8], list: &[u32], o: Order) {
+pub(super) fn show(rt: &impl Print, map: &[u8], list: &[u32], o: Order) -> io::Result<()> {
     let what = o.what;
     if what == 20 {
-        say(b"T", o.a);
-        say(b" version ", o.b);
-        end_line();
+        say(rt, b"T", o.a)?;
+        say(rt, b" version ", o.b)?;
+        end_line(rt)?;
     }
     if what == 21 {
-        show_map(map, o.a);
+        show_map(rt, map, o.a)?;
     }
     if what == 22 {
-        show_list(list, o.a);
+        show_list(rt, list, o.a)?;
     }
+    Ok(())
 }

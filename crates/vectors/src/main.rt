@@ -33,9 +33,10 @@ mod lines;
 
 use calls::{call_check, call_edit, call_search};
 use desk::{Desk, set_edit, set_map, set_search};
-use libc::{STDIN_FILENO, STDOUT_FILENO};
 use lines::show;
 use numbers::u32_at;
+use std::io;
+use std::io::{ErrorKind, Read};
 
 // An order of the script.
 #[derive(Clone, Copy)]
@@ -54,76 +55,94 @@ fn last() -> Order {
     }
 }
 
+// Fills a buffer, and says whether the input had enough for it.
+fn read_whole(input: &mut impl Read, buffer: &mut [u8]) -> io::Result<bool> {
+    match input.read_exact(buffer) {
+        Ok(()) => Ok(true),
+        Err(e) if e.kind() == ErrorKind::UnexpectedEof => Ok(false),
+        Err(e) => Err(e),
+    }
+}
+
 // The next order. The end of the input is the last; so is an order that is none of the 22.
-fn next() -> Order {
+fn next(rt: &impl Print, input: &mut impl Read) -> io::Result<Order> {
     let mut r = [0u8; 12];
-    let n = io::read_full(STDIN_FILENO, &mut r);
-    if n < 12 {
-        return last();
+    if !read_whole(input, &mut r)? {
+        return Ok(last());
     }
     let what = u32_at(&r, 0);
     if 22 < what {
-        io::write_all(STDOUT_FILENO, b"bad script\n");
-        return last();
+        rt.write_all(b"bad script\n")?;
+        return Ok(last());
     }
-    Order {
+    Ok(Order {
         what,
         a: u32_at(&r, 4),
         b: u32_at(&r, 8),
-    }
+    })
 }
 
 // One order.
 fn obey(
+    rt: &impl Print,
     map: &mut [u8],
     journal: &mut [u8],
     object: &mut [u8],
     list: &mut [u32],
     d: Desk,
     o: Order,
-) -> Desk {
+) -> io::Result<Desk> {
     let what = o.what;
     if what < 7 {
-        return set_map(map, d, o);
+        return Ok(set_map(map, d, o));
     }
     if what < 12 {
-        return set_edit(journal, object, d, o);
+        return Ok(set_edit(journal, object, d, o));
     }
     if what < 15 {
-        return set_search(list, d, o);
+        return Ok(set_search(list, d, o));
     }
     if what == 15 {
-        call_check(map, d.map, d.used);
-        return d;
+        call_check(rt, map, d.map, d.used)?;
+        return Ok(d);
     }
     if what == 16 {
-        call_search(map, list, d);
-        return d;
+        call_search(rt, map, list, d)?;
+        return Ok(d);
     }
     if what < 20 {
-        return call_edit(map, journal, object, d, o);
+        return call_edit(rt, map, journal, object, d, o);
     }
-    show(map, list, o);
-    d
+    show(rt, map, list, o)?;
+    Ok(d)
 }
 
 // The orders up to the last; at most a million.
-fn play(map: &mut [u8], journal: &mut [u8], object: &mut [u8], list: &mut [u32], start: Desk) {
+fn play(
+    rt: &impl Print,
+    input: &mut impl Read,
+    map: &mut [u8],
+    journal: &mut [u8],
+    object: &mut [u8],
+    list: &mut [u32],
+    start: Desk,
+) -> io::Result<()> {
     let mut d = start;
     let mut left: u32 = 1000000;
     while 0 < left {
-        let o = next();
+        let o = next(rt, input)?;
         let what = o.what;
         if what == 0 {
-            return;
+            return Ok(());
         }
-        d = obey(map, journal, object, list, d, o);
+        d = obey(rt, map, journal, object, list, d, o)?;
         left -= 1;
     }
+    Ok(())
 }
 
 // The map has room for an object of 32,768 pairs and a block, the journal for one record more than the limit, the object for one pair more than the limit.
-fn main() {
+fn main(rt: HostRuntime) -> io::Result<()> {
     let mut map = [0u8; 270000];
     let mut journal = [0u8; 65552];
     let mut object = [0u8; 262184];
@@ -139,5 +158,14 @@ fn main() {
         right: 0,
         top: 0,
     };
-    play(&mut map, &mut journal, &mut object, &mut list, d);
+    let mut input = rt.stdin();
+    play(
+        &rt,
+        &mut input,
+        &mut map,
+        &mut journal,
+        &mut object,
+        &mut list,
+        d,
+    )
 }
