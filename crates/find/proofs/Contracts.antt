@@ -23,7 +23,7 @@ pub search-says : Says search.ended (λ M 𝓤 𝓛. search.clauses 𝓛)
     (λ κs (m, (used, (w, (l, _)))) r (_, (_, (_, (after, _)))). Searched m.now used w l.now r after.now)
 search-says M 𝓤 𝓛 mem run = refl
 
-pub search-input-says : Says search-input.ended (λ M 𝓤. search-input.clauses 𝓤)
+pub search-input-says : Says search-input.ended (λ M 𝓤 𝓛. search-input.clauses 𝓛)
     (λ κs (i, (l, _)) r (_, (after, _)). SearchedInput i.now l.now r after.now)
 search-input-says M 𝓤 𝓛 mem run = refl
 
@@ -39,7 +39,7 @@ count-says M 𝓤 𝓛 mem run = refl
 pub blocks-says : Says blocks.ended (λ M 𝓤 𝓛. blocks.clauses 𝓛) (λ κs (a, _) r e. r ≡ blocks_of a)
 blocks-says M 𝓤 𝓛 mem run = refl
 
-pub checked-length-says : Says checked-length.ended (λ M 𝓤. checked-length.clauses 𝓤) (λ κs (m, (used, _)) r e. r ≡ checked_length m.now used)
+pub checked-length-says : Says checked-length.ended (λ M 𝓤 𝓛. checked-length.clauses 𝓛) (λ κs (m, (used, _)) r e. r ≡ checked_length m.now used)
 checked-length-says M 𝓤 𝓛 mem run = refl
 
 -- ---- one answer each

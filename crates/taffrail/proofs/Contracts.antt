@@ -18,25 +18,25 @@ use Rattle.taffrail.specs.contracts.taffrail_reinstate as taffrail-reinstate
 
 -- ---- what is said
 
-pub check-says : Says taffrail-check.ended (λ M 𝓤. taffrail-check.clauses 𝓤) (λ κs (m, (used, _)) r (_, (_, (p, _))). CChecked m.now used r p.now)
+pub check-says : Says taffrail-check.ended (λ M 𝓤 𝓛. taffrail-check.clauses 𝓛) (λ κs (m, (used, _)) r (_, (_, (p, _))). CChecked m.now used r p.now)
 check-says M 𝓤 𝓛 mem run = refl
 
-pub search-says : Says taffrail-search.ended (λ M 𝓤. taffrail-search.clauses 𝓤)
+pub search-says : Says taffrail-search.ended (λ M 𝓤 𝓛. taffrail-search.clauses 𝓛)
     (λ κs (m, (used, (left, (bottom, (right, (top, (l, _))))))) r (_, (_, (_, (_, (_, (_, (after, (p, (c, (b, _)))))))))).
     CSearched m.now used (window_from left bottom right top) l.now r p.now c.now b.now after.now)
 search-says M 𝓤 𝓛 mem run = refl
 
-pub add-says : Says taffrail-add.ended (λ M 𝓤. taffrail-add.clauses 𝓤)
+pub add-says : Says taffrail-add.ended (λ M 𝓤 𝓛. taffrail-add.clauses 𝓛)
     (λ κs (m, (used, (j, (e, (o, _))))) r (m', (_, (j', (_, (_, (p, (b, (s, (n, _))))))))).
     CAdded m.now used j.now e o.now r p.now b.now s.now n.now m'.now j'.now)
 add-says M 𝓤 𝓛 mem run = refl
 
-pub remove-says : Says taffrail-remove.ended (λ M 𝓤. taffrail-remove.clauses 𝓤)
+pub remove-says : Says taffrail-remove.ended (λ M 𝓤 𝓛. taffrail-remove.clauses 𝓛)
     (λ κs (m, (used, (j, (e, (at, _))))) r (m', (_, (j', (_, (_, (p, (b, (s, (n, _))))))))).
     CRemoved m.now used j.now e at r p.now b.now s.now n.now m'.now j'.now)
 remove-says M 𝓤 𝓛 mem run = refl
 
-pub reinstate-says : Says taffrail-reinstate.ended (λ M 𝓤. taffrail-reinstate.clauses 𝓤)
+pub reinstate-says : Says taffrail-reinstate.ended (λ M 𝓤 𝓛. taffrail-reinstate.clauses 𝓛)
     (λ κs (m, (used, (j, (e, (at, _))))) r (m', (_, (j', (_, (_, (p, (b, (s, (n, _))))))))).
     CReinstated m.now used j.now e at r p.now b.now s.now n.now m'.now j'.now)
 reinstate-says M 𝓤 𝓛 mem run = refl

@@ -19,11 +19,11 @@ use Rattle.view.specs.contracts.search_view as search-view
 pub view-says : Says view.ended (λ M 𝓤 𝓛. view.clauses 𝓛) (λ κs (bytes, (used, _)) r e. Viewed bytes used r)
 view-says M 𝓤 𝓛 mem run = refl
 
-pub find-in-says : Says find-in.ended (λ M 𝓤. find-in.clauses 𝓤)
+pub find-in-says : Says find-in.ended (λ M 𝓤 𝓛. find-in.clauses 𝓛)
     (λ κs (v, (w, (l, _))) r (_, (_, (after, _))). FoundIn v w l.now r after.now)
 find-in-says M 𝓤 𝓛 mem run = refl
 
-pub search-view-says : Says search-view.ended (λ M 𝓤. search-view.clauses 𝓤)
+pub search-view-says : Says search-view.ended (λ M 𝓤 𝓛. search-view.clauses 𝓛)
     (λ κs (m, (used, (w, (l, _)))) r (_, (_, (_, (after, _)))). SearchedView m.now used w l.now r after.now)
 search-view-says M 𝓤 𝓛 mem run = refl
 
