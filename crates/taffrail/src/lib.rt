@@ -1,5 +1,5 @@
-// The C interface. A slice passes as a pointer and then its length, a `&mut u32` as a pointer. Every call takes any bytes and numbers at all, returns
-// document 01's number, and writes every out parameter, on a refusal too. hosts/include/taffrail.h is its declaration for C.
+// What the C interface does, for Rattle: its five calls, with their names and numbers. `taffrail_c` exports them. Every call takes any bytes and numbers at
+// all, returns document 01's number, and writes every out parameter, on a refusal too.
 #![tactic(auto)]
 
 ghost use Rattle.taffrail.specs.Calls.{window_from, CChecked, CSearched, Wrote, CAdded, CRemoved, CReinstated};
@@ -7,8 +7,7 @@ ghost use Rattle.taffrail.specs.Calls.{window_from, CChecked, CSearched, Wrote, 
 use windows::Window;
 
 // The check.
-#[unsafe(no_mangle)]
-pub extern "C" fn taffrail_check(map: &[u8], used: usize, place: &mut u32) -> u32
+pub fn taffrail_check(map: &[u8], used: usize, place: &mut u32) -> u32
     ensures { CChecked map.now used result place.new }
 {
     let v = accept::check(map, used);
@@ -17,8 +16,7 @@ pub extern "C" fn taffrail_check(map: &[u8], used: usize, place: &mut u32) -> u3
 }
 
 // The search.
-#[unsafe(no_mangle)]
-pub extern "C" fn taffrail_search(
+pub fn taffrail_search(
     map: &[u8],
     used: usize,
     left: i32,
@@ -64,8 +62,7 @@ fn tell(
 }
 
 // Add an object.
-#[unsafe(no_mangle)]
-pub extern "C" fn taffrail_add(
+pub fn taffrail_add(
     map: &mut [u8],
     used: usize,
     journal: &mut [u8],
@@ -84,8 +81,7 @@ pub extern "C" fn taffrail_add(
 }
 
 // Remove the object of a slot.
-#[unsafe(no_mangle)]
-pub extern "C" fn taffrail_remove(
+pub fn taffrail_remove(
     map: &mut [u8],
     used: usize,
     journal: &mut [u8],
@@ -104,8 +100,7 @@ pub extern "C" fn taffrail_remove(
 }
 
 // Reinstate the object of a slot.
-#[unsafe(no_mangle)]
-pub extern "C" fn taffrail_reinstate(
+pub fn taffrail_reinstate(
     map: &mut [u8],
     used: usize,
     journal: &mut [u8],
