@@ -66,6 +66,12 @@ class Examples(unittest.TestCase):
         self.assertEqual(re.findall(r"\d\.\d\d", README), [])
 
 
+class Kit(unittest.TestCase):
+    def test_the_first_page_names_it(self) -> None:
+        kit = (ROOT / ".ci" / "kit").read_text().strip()
+        self.assertEqual(re.findall(r"`(rattle-kit-[^`]*)`", README), [kit])
+
+
 class PublicCalls(unittest.TestCase):
     """The functions that the documents name, and their contracts."""
 
