@@ -43,9 +43,9 @@ live-handed {st} g b holds s =
 
 live-run : {st : State} (g : Good st) (xs : List Event) → Fair st xs → (s : ℕ) → NoneRemoves s xs → is_live_in st s ≡ true → is_live_in (run st xs) s ≡ true
 unfolding run
-live-run g [] a s keep l = l
-live-run g (made c ∷ xs) a s keep l = live-run (step-good g c a.0) xs a.1 s keep.1 (live-step g c a.0 s keep.0 l)
-live-run g (handed b ∷ xs) a s keep l = live-run (turn-good g (handed b) a.0) xs a.1 s keep.1 (live-handed g b a.0.1 s ∙ l)
+live-run {st} g [] a s keep l = l
+live-run {st} g (made c ∷ xs) a s keep l = live-run {st = step st c} (step-good g c a.0) xs a.1 s keep.1 (live-step g c a.0 s keep.0 l)
+live-run {st} g (handed b ∷ xs) a s keep l = live-run {st = with_buffer st b} (turn-good g (handed b) a.0) xs a.1 s keep.1 (live-handed g b a.0.1 s ∙ l)
 
 pub footbridge : Footbridge
 footbridge st e f s xs ys g a b sx sy i₁ i₂ keep =

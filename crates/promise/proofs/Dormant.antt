@@ -134,7 +134,7 @@ pub dormant-run : {st : State} (g : Good st) (m₀ : List ℕ) (s : ℕ) → Dor
     → (k : Good (run st xs)) × Dormant m₀ s (run st xs) k.blocks
 unfolding run
 dormant-run {st} g m₀ s x [] a = (g, x)
-dormant-run {st} g m₀ s x (y ∷ ys) a = let k = dormant-turn g m₀ s x y a.0 in dormant-run k.0 m₀ s k.1 ys a.1
+dormant-run {st} g m₀ s x (y ∷ ys) a = let k = dormant-turn g m₀ s x y a.0 in dormant-run {st = turn st y} k.0 m₀ s k.1 ys a.1
 
 -- live again, the slot has the content it had
 pub dormant-content : {st : State} (g : Good st) (m₀ : List ℕ) (s : ℕ) → Dormant m₀ s st g.blocks → is_live_in st s ≡ true → content_of st.map s ≡ content_of m₀ s

@@ -160,9 +160,9 @@ keeps-step {st} g c a {e} k =
 
 pub keeps-run : {st : State} → Good st → (xs : List Event) → Fair st xs → {e : ℕ} {r : JournalRecord} → Keeps st.journal e r → Keeps (run st xs).journal e r
 unfolding run
-keeps-run g [] a k = k
-keeps-run g (made c ∷ xs) a k = keeps-run (step-good g c a.0) xs a.1 (keeps-step g c a.0 k)
-keeps-run g (handed b ∷ xs) a k = keeps-run (turn-good g (handed b) a.0) xs a.1 k
+keeps-run {st} g [] a k = k
+keeps-run {st} g (made c ∷ xs) a k = keeps-run {st = step st c} (step-good g c a.0) xs a.1 (keeps-step g c a.0 k)
+keeps-run {st} g (handed b ∷ xs) a k = keeps-run {st = with_buffer st b} (turn-good g (handed b) a.0) xs a.1 k
 
 number_of : (c : Call) (s : ℕ) → (record_due c s).number ≡ edit_number c
 number_of (add e o) s = refl

@@ -56,10 +56,10 @@ module _ {st : State} {n : ℕ} (x : Wide st n) where
 
 wide-run : {st : State} {n : ℕ} → Wide st n → (xs : List Event) → Fair st xs → Untouched st xs
 unfolding run done_in
-wide-run x [] a = record { map = refl; used = refl; journal = refl; none = refl; told = wide-says x }
+wide-run {st} {n} x [] a = record { map = refl; used = refl; journal = refl; none = refl; told = wide-says x }
 wide-run {st} {n} x (made c ∷ xs) a =
     let e = wide_step x c in
-    let r : Untouched (step st c) xs = wide-run {n = n} (rw e x) xs a.1 in
+    let r : Untouched (step st c) xs = wide-run {st = step st c} {n = n} (rw e x) xs a.1 in
     record {
       map = r.map ∙ ap map_of e;
       used = r.used ∙ ap (λ (y : State). y.used) e;
@@ -67,8 +67,8 @@ wide-run {st} {n} x (made c ∷ xs) a =
       none = rw (wide-not-done x c) r.none;
       told = r.told;
     }
-wide-run {st} x (handed b ∷ xs) a =
-    let r : Untouched (with_buffer st b) xs = wide-run (wide-handed x a.0.1) xs a.1 in
+wide-run {st} {n} x (handed b ∷ xs) a =
+    let r : Untouched (with_buffer st b) xs = wide-run {st = with_buffer st b} {n = n} (wide-handed x a.0.1) xs a.1 in
     record { map = r.map ∙ a.0.1; used = r.used; journal = r.journal; none = r.none; told = r.told }
 
 pub wide-stays : WideStays
