@@ -24,7 +24,7 @@ use lib.Signed.{le_z, ◌≤ℤ◌}
 use borrow.Author.Tests.{lt-ltb, le-ltb, ltb-false}
 use Rattle.numbers.specs.Below.{sel}
 use Rattle.numbers.specs.Coordinates.{value_of}
-use Rattle.numbers.proofs.Below.{never, sel-less}
+use Rattle.numbers.proofs.Below.{sel-less}
 use Rattle.numbers.proofs.Bytes.{get_or-sets-high, get_or-sets-in}
 use Rattle.windows.specs.declared.Window.{Window}
 use Rattle.windows.specs.declared.Rectangle.{Rectangle}

@@ -1,7 +1,7 @@
 -- The laws of the tests: what a test in the code tells of the test in a definition, the table in the place of the chain, an object's header read in a lent
 -- part, and the bounds of an object's bytes. Assumes nothing.
 use Prim.Native.Nat.{ℕ, ◌+◌, ◌-◌, ◌*◌, ◌/◌, ◌%◌, ◌≤◌, ◌<◌}
-use mathlib.Core.Bool.{Bool, true, false, not, cond, ◌&&◌, and-eq-true_iff}
+use mathlib.Core.Bool.{Bool, true, false, cond, ◌&&◌, and-eq-true_iff}
 use mathlib.Core.Logic.{⊎_elim}
 use mathlib.Core.Path.{◌≡◌, refl, sym, ◌∙◌, fun_ext}
 use mathlib.Core.List.{List}
@@ -10,7 +10,7 @@ use native.Mathlib.Decide.{ℕ_discrete}
 use lib.Dec.{eqb, leb}
 use lib.ListN.{take, drop}
 use lib.Seq.{get_or-take}
-use borrow.Author.Tests.{not-true, not-false, eqb-true, eqb-false, eq-eqb, ne_eqb, leb-true, leb-false, le-leb, lt-leb}
+use borrow.Author.Tests.{eqb-true, eqb-false, eq-eqb, ne_eqb, leb-true, leb-false, le-leb, lt-leb}
 use Rattle.numbers.specs.Bytes.{u16_at}
 use Rattle.numbers.proofs.Bytes.{le_at-part, le_at-drop}
 use Rattle.records.specs.Sizes.{object_header_size, object_most}

@@ -1,12 +1,9 @@
 -- One answer each: by the laws of the calls' results, each in its crate. Results whose fields are equal are equal. Assumes nothing.
 use mathlib.Core.Path.{◌≡◌}
-use mathlib.Core.List.{List}
-use Prim.Native.Nat.{ℕ}
 use Rattle.accept.proofs.Contracts.{one, check-one}
 use Rattle.find.proofs.Contracts.{search-one, search-input-one}
 use Rattle.view.proofs.Contracts.{view-one, find-in-one, search-view-one}
 use Rattle.edit.specs.Edits.{Outcome}
-use Rattle.edit.specs.declared.EditAnswer.{EditAnswer}
 use Rattle.add.proofs.Contracts.{add-one}
 use Rattle.change.proofs.Contracts.{remove-one, reinstate-one}
 use Rattle.taffrail.specs.Calls.{window_from}

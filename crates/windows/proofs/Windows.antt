@@ -1,15 +1,15 @@
 -- The laws of windows: that the sides fit, how a value is compared with a side by the raw number alone, the four tests of a rectangle, and document 01's two
 -- windows. Assumes nothing.
-use Prim.Native.Nat.{ℕ, suc, ◌+◌, ◌-◌, ◌*◌, ◌/◌, ◌^◌, ◌<◌}
+use Prim.Native.Nat.{ℕ, suc, ◌+◌, ◌-◌, ◌*◌, ◌/◌}
 use mathlib.Core.Bool.{Bool, true, false, ◌&&◌, and_assoc}
 use mathlib.Core.Logic.{⊎_elim}
 use mathlib.Core.Path.{◌≡◌, refl, sym, ◌∙◌}
 use native.Mathlib.Omega.{arith}
 use lib.Dec.{leb}
 use lib.IntN.{ℤ, pos, negsuc, ◌+ℤ◌, ◌*ℤ◌}
-use lib.Signed.{le_z, mag}
+use lib.Signed.{le_z}
 use mir.Syntax.{w32, w64}
-use mir.Val.{hbits, to_z, of_z, SFits}
+use mir.Val.{to_z, of_z, SFits}
 use mir.Facts.{to_z-of_z, sfits_widen}
 use borrow.Author.Tests.{lt-ltb, le-leb, lt-leb}
 use Rattle.numbers.specs.Coordinates.{signed, signed32, floor_div, value_of}

@@ -14,12 +14,11 @@ use Rattle.judge.proofs.Rules.{index-page, index-rule, index-ready, walk-by, fau
 use Rattle.accept.proofs.open_index.Goals as goal
 
 pub walk_chain-w-requires : goal.walk_chain-w-requires
-walk_chain-w-requires c =
-    (
-      c.requires.2,
-      index-ready c.args.m.now c.of.ensures c.index_kind.ensures (replicate 2 0) (zeros 2) (λ i. (c.type_inv.m i).fits) c.requires.0 c.requires.1 (omega arith) c.requires.3,
-      c.requires.4,
-    )
+walk_chain-w-requires c = (
+  c.requires.2,
+  index-ready c.args.m.now c.of.ensures c.index_kind.ensures (replicate 2 0) (zeros 2) (λ i. (c.type_inv.m i).fits) c.requires.0 c.requires.1 (omega arith) c.requires.3,
+  c.requires.4,
+)
 
 pub open_symbols-requires : goal.open_symbols-requires
 open_symbols-requires c =

@@ -1,7 +1,6 @@
 -- `look::look_in_block` meets its contract, by the laws of the words of a block. The measure is what is left of them. Assumes nothing.
 use Prim.Native.Nat.{◌-◌}
 use mathlib.Core.Path.{◌≡◌}
-use lib.Count.{ones as count}
 use Rattle.judge.specs.Rules.{family_of}
 use Rattle.accept.specs.Opens.{slot_fault}
 use Rattle.look.specs.Looks.{block_words}

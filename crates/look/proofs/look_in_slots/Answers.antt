@@ -1,5 +1,5 @@
 use native.Mathlib.Omega.{arith}
-use Prim.Native.Nat.{ℕ, ◌+◌, ◌-◌, ◌≤◌, ◌<◌}
+use Prim.Native.Nat.{ℕ, ◌+◌, ◌≤◌, ◌<◌}
 use mathlib.Core.Path.{◌≡◌, refl, sym, ap, ◌∙◌}
 use Rattle.numbers.proofs.Below.{First, first-law}
 use Rattle.records.specs.Sizes.{most_blocks}
@@ -50,8 +50,7 @@ returns-then-seen-lt-SLOTS c =
     let bad : let a = c.args in First (λ j. at_fault a.m.now a.used a.n (cell_in c.loop-k.at (family_of a.m.now).slot j)) 256 c.look_in_block-seen.result.bad = let a = c.args in
     rw (c.look_in_block-seen.ensures.0, slot_fault, c.u16_at-version.ensures, same-touch (family_of a.m.now) c.requires.0.table) (first-law (λ j. at_fault a.m.now a.used a.n (cell_in c.loop-k.at (family_of a.m.now).slot j)) 256) in
     let stands : c.slot_place.result ≡ cell_in c.loop-k.at (family_of c.args.m.now).slot c.look_in_block-seen.result.bad = c.slot_place.ensures ∙ ap (λ (v : ℕ). cell_in c.loop-k.at (family_in v).slot c.look_in_block-seen.result.bad) c.u16_at-version.ensures in
-    let inside : let a = c.args in c.loop-k.at + (family_of a.m.now).block ≤ a.used = mark-inside c.loop-k.invariant c.loop-k-test.true in
-    (
+    let inside : let a = c.args in c.loop-k.at + (family_of a.m.now).block ≤ a.used = mark-inside c.loop-k.invariant c.loop-k-test.true in (
       λ e. absurd (slot-past c.loop-k.at _ _ (sym c.slot_place.ensures ∙ e)),
       λ e. mark-bad c.loop-k.invariant c.loop-k-test.true bad c.if-seen-lt-SLOTS.true ∙ ap (Bad 7) (sym stands),
       omega (arith, stands, slot-low (is_wide (version_of c.args.m.now)) c.loop-k.at c.args.used c.look_in_block-seen.result.bad inside c.if-seen-lt-SLOTS.true, c.requires.0.indexed.limit),

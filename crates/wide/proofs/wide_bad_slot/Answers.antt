@@ -1,7 +1,6 @@
 -- `wide::wide_bad_slot` meets its contract: a slot that is not live is not judged, and of a live one the test is asked. Assumes nothing.
 use mathlib.Core.Path.{sym, ap, ◌∙◌}
 use mathlib.Core.Bool.{not}
-use borrow.Author.Tests.{not-true, not-false}
 use Rattle.records.specs.Sizes.{wide_block_size}
 use Rattle.chain.specs.Tables.{ends_meet}
 use Rattle.wide.proofs.Slots.{bad-dead, bad-live, live-len}

@@ -5,7 +5,6 @@ use mathlib.Core.Path.{◌≡◌, sym, ap, ◌∙◌}
 use native.Mathlib.Omega.{arith}
 use lib.ListN.{length, drop}
 use borrow.Author.Rules.{rules}
-use borrow.Author.Tests.{not-true, not-false}
 use Rattle.chain.specs.Tables.{ends_meet}
 use Rattle.chain.proofs.Filled.{filled-less}
 use Rattle.wide.specs.Slots.{wide_object_of}

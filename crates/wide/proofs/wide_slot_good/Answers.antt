@@ -1,7 +1,6 @@
 -- `wide::wide_slot_good` meets its contract: each test that fails settles the answer. Assumes nothing.
 use mathlib.Core.Bool.{and-true, and-false}
 use mathlib.Core.Path.{sym, ◌∙◌}
-use borrow.Author.Tests.{not-true, not-false}
 use Rattle.wide.specs.Slots.{wide_slot_good}
 use Rattle.wide.proofs.wide_slot_good.Goals as goal
 

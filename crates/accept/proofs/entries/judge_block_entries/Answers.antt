@@ -1,5 +1,5 @@
 use native.Mathlib.Omega.{arith}
-use Prim.Native.Nat.{◌+◌, ◌-◌, ◌≤◌}
+use Prim.Native.Nat.{◌+◌, ◌≤◌}
 use Rattle.chain.specs.Cells.{cell_in}
 use Rattle.accept.proofs.Looking.{look-start, look-on, look-bad, look-good}
 use Rattle.accept.proofs.entries.judge_block_entries.Goals as goal

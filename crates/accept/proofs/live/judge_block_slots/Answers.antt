@@ -1,5 +1,5 @@
 use native.Mathlib.Omega.{arith}
-use Prim.Native.Nat.{ℕ, ◌+◌, ◌-◌, ◌≤◌}
+use Prim.Native.Nat.{ℕ, ◌+◌, ◌≤◌}
 use mathlib.Core.Path.{◌≡◌, refl, sym, ap, ◌∙◌}
 use mathlib.Core.Bool.{true, false}
 use Rattle.records.specs.Sizes.{index_block_size}
@@ -31,11 +31,10 @@ bad_slot-requires c =
     (pre.1, c.if-t-eq0.false)
 
 pub returns-then-bad_slot : goal.returns-then-bad_slot
-returns-then-bad_slot c =
-    (
-      look-found c.loop-j.invariant.0 c.loop-j-test.true (sym (c.bad_slot.ensures c.loop-j.at c.at-t.ensures) ∙ c.if-bad_slot.true),
-      λ e. absurd (omega (arith, c.loop-j-test.true)),
-    )
+returns-then-bad_slot c = (
+  look-found c.loop-j.invariant.0 c.loop-j-test.true (sym (c.bad_slot.ensures c.loop-j.at c.at-t.ensures) ∙ c.if-bad_slot.true),
+  λ e. absurd (omega (arith, c.loop-j-test.true)),
+)
 
 pub overflow_add-at-in-loop-j : goal.overflow_add-at-in-loop-j
 unfolding cell_in
@@ -51,9 +50,12 @@ loop-j-preserved c =
     let found : let a = c.args in c.if-t-eq0.free ≡ first_or (free_in a.m.now a.block) (c.loop-j.j + 1) 256 = let l = c.loop-j in
     let a = c.args in
     let here = ap (no_len a.m.now) (sym l.invariant.0.here) in
-    elim c.if-t-eq0.branch [ then-t-eq0 w ↦ w.free-is ∙ w.first_free-free.ensures ∙ ap (λ (x : ℕ). first_free true x l.j) l.invariant.1
-    ∙ or-found (free_in a.m.now a.block) l.j 256 c.loop-j-test.true (here ∙ no-len a.m.now l.at c.at-t.ensures w.if-t-eq0.true) | else-t-eq0+else-bad_slot w ↦ w.free-is ∙ l.invariant.1
-    ∙ or-not (free_in a.m.now a.block) l.j 256 c.loop-j-test.true (here ∙ has-len a.m.now l.at c.at-t.ensures w.if-t-eq0.false) ] in
+    elim c.if-t-eq0.branch [
+      | then-t-eq0 w ↦ w.free-is ∙ w.first_free-free.ensures ∙ ap (λ (x : ℕ). first_free true x l.j) l.invariant.1
+          ∙ or-found (free_in a.m.now a.block) l.j 256 c.loop-j-test.true (here ∙ no-len a.m.now l.at c.at-t.ensures w.if-t-eq0.true)
+      | else-t-eq0+else-bad_slot w ↦ w.free-is ∙ l.invariant.1
+          ∙ or-not (free_in a.m.now a.block) l.j 256 c.loop-j-test.true (here ∙ has-len a.m.now l.at c.at-t.ensures w.if-t-eq0.false)
+    ] in
     let v = c.loop-j.invariant.0 in
     (look-on v c.loop-j-test.true refl good (omega (arith, v.here)), found)
 

@@ -1,5 +1,5 @@
 use native.Mathlib.Omega.{arith}
-use Prim.Native.Nat.{ℕ, ◌+◌, ◌-◌, ◌*◌, ◌≤◌}
+use Prim.Native.Nat.{ℕ, ◌+◌, ◌*◌, ◌≤◌}
 use mathlib.Core.Path.{◌≡◌, sym, ap, ◌∙◌}
 use lib.Dec.{ltb}
 use Rattle.numbers.specs.Bytes.{u32_at}
@@ -28,12 +28,11 @@ overflow_mul-free c =
 
 pub loop-k-init : goal.loop-k-init
 unfolding place
-loop-k-init c =
-    (
-      along-start (walked-pass (index_rule c.args.m.now) c.args.m.now c.args.used c.requires.0.index) (omega arith),
-      c.u32_at-at.ensures,
-      sym (or-none (is_free_at c.args.m.now) (256 * c.args.n)),
-    )
+loop-k-init c = (
+  along-start (walked-pass (index_rule c.args.m.now) c.args.m.now c.args.used c.requires.0.index) (omega arith),
+  c.u32_at-at.ensures,
+  sym (or-none (is_free_at c.args.m.now) (256 * c.args.n)),
+)
 
 pub judge_block_slots-seen-requires : goal.judge_block_slots-seen-requires
 judge_block_slots-seen-requires c =

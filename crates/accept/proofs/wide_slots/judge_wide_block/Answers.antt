@@ -1,7 +1,6 @@
 use native.Mathlib.Omega.{arith}
-use Prim.Native.Nat.{◌+◌, ◌-◌, ◌≤◌}
+use Prim.Native.Nat.{◌+◌, ◌≤◌}
 use Rattle.chain.specs.Cells.{cell_in}
-use Rattle.wide.specs.Slots.{wide_bad_slot}
 use Rattle.accept.proofs.Looking.{look-start, look-on, look-bad, look-good}
 use Rattle.accept.proofs.wide_slots.judge_wide_block.Goals as goal
 

@@ -1,5 +1,5 @@
 use native.Mathlib.Omega.{arith}
-use Prim.Native.Nat.{ℕ, ◌+◌, ◌-◌, ◌≤◌}
+use Prim.Native.Nat.{ℕ, ◌+◌, ◌≤◌}
 use mathlib.Core.Path.{◌≡◌, refl, sym, ap, subst, ◌∙◌}
 use mathlib.Core.Bool.{false}
 use Rattle.records.specs.Sizes.{wide_block_size, wide_slot_size}
@@ -30,11 +30,10 @@ wide_bad_slot-requires c =
     c.requires.1
 
 pub returns-then-wide_bad_slot : goal.returns-then-wide_bad_slot
-returns-then-wide_bad_slot c =
-    (
-      look-found c.loop-j.invariant.0 c.loop-j-test.true (sym (c.wide_bad_slot.ensures c.loop-j.at c.at-t.ensures) ∙ c.if-wide_bad_slot.true),
-      λ e. absurd (omega (arith, c.loop-j-test.true)),
-    )
+returns-then-wide_bad_slot c = (
+  look-found c.loop-j.invariant.0 c.loop-j-test.true (sym (c.wide_bad_slot.ensures c.loop-j.at c.at-t.ensures) ∙ c.if-wide_bad_slot.true),
+  λ e. absurd (omega (arith, c.loop-j-test.true)),
+)
 
 pub is_live-requires : goal.is_live-requires
 is_live-requires c =

@@ -1,8 +1,7 @@
 use native.Mathlib.Omega.{arith}
-use Prim.Native.Nat.{◌+◌, ◌-◌, ◌≤◌}
+use Prim.Native.Nat.{◌+◌, ◌≤◌}
 use mathlib.Core.Path.{◌≡◌, refl, sym, ap, ◌∙◌}
 use mathlib.Core.Bool.{false}
-use mathlib.Core.Logic.{⊎_elim}
 use Rattle.records.specs.Sizes.{index_block_size, slot_size}
 use Rattle.chain.specs.Tables.{ends_meet}
 use Rattle.judge.specs.Judging.{bad_slot}
@@ -33,11 +32,10 @@ bad_slot-requires c =
     (pre.1, c.if-t-ne0.true)
 
 pub returns-then-bad_slot : goal.returns-then-bad_slot
-returns-then-bad_slot c =
-    (
-      look-found c.loop-j.invariant.0 c.loop-j-test.true (sym (c.bad_slot.ensures c.loop-j.at c.at-t.ensures) ∙ c.if-bad_slot.true),
-      λ e. absurd (omega (arith, c.loop-j-test.true)),
-    )
+returns-then-bad_slot c = (
+  look-found c.loop-j.invariant.0 c.loop-j-test.true (sym (c.bad_slot.ensures c.loop-j.at c.at-t.ensures) ∙ c.if-bad_slot.true),
+  λ e. absurd (omega (arith, c.loop-j-test.true)),
+)
 
 pub meets_window-hit-requires : goal.meets_window-hit-requires
 meets_window-hit-requires c =
