@@ -4,7 +4,7 @@ use mathlib.Core.Path.{◌≡◌, sym, ap, ◌∙◌}
 use native.Mathlib.Omega.{arith}
 use Rattle.slots.specs.declared.Slot.{Slot}
 use Rattle.slots.specs.declared.Found.{Found}
-use Rattle.slots.specs.declared.State.TheVariants.{Erased, Live}
+use Rattle.slots.specs.declared.State.TheVariants.{Erased, Free, Live}
 use Rattle.slots.specs.Slots.{found_at, state_of}
 use Rattle.records.specs.Sizes.{index_block_size}
 use Rattle.chain.specs.Tables.{ends_meet}
@@ -43,7 +43,7 @@ sym_to_reinstate-requires c =
     let found : let a = c.args in (state_of (slot_in a.m.now a.at) ≡ c.read_slot-found.result.state) × (slot_in a.m.now a.at ≡ c.read_slot-found.result.slot) = let e = rw placed at c.read_slot-found.ensures in
     (sym (ap (λ (f : Found). f.state) e), sym (ap (λ (f : Found). f.slot) e)) in
     let h = holds in
-    let e = found.0 ∙ c.in-Erased.is in
+    let e : state_of (slot_in c.args.m.now c.args.at) ≡ Erased = cc in
     (h.low, record { limit = h.limit; room = h.room; wide = c.requires.2; filled = c.requires.1.filled }, λ z. erased-len _ e (ap (λ (t : Slot). t.len) found.1 ∙ z))
 
 pub returns-in-Free : goal.returns-in-Free
@@ -55,7 +55,7 @@ returns-in-Free c =
     let l = c.if-n-s.false in
     let a = c.args in
     let m = a.m.now in
-    let e = found.0 ∙ c.in-Free.is in
+    let e : state_of (slot_in c.args.m.now c.args.at) ≡ Free = cc in
     sym (sym-neither a.kind m a.used a.n a.at (state-has Live m a.n a.at l e) (state-has Erased m a.n a.at l e))
 
 pub returns-then-kind-eq-REMOVE : goal.returns-then-kind-eq-REMOVE
@@ -66,7 +66,7 @@ returns-then-kind-eq-REMOVE c =
     (sym (ap (λ (f : Found). f.state) e), sym (ap (λ (f : Found). f.slot) e)) in
     let a = c.args in
     let m = a.m.now in
-    let e = found.0 ∙ c.in-Live.is in
+    let e : state_of (slot_in c.args.m.now c.args.at) ≡ Live = cc in
     sym (sym-remove a.kind m a.used a.n a.at c.if-kind-eq-REMOVE.true (state-has Live m a.n a.at c.if-n-s.false e))
 
 pub returns-else-kind-eq-REMOVE : goal.returns-else-kind-eq-REMOVE
@@ -77,7 +77,7 @@ returns-else-kind-eq-REMOVE c =
     (sym (ap (λ (f : Found). f.state) e), sym (ap (λ (f : Found). f.slot) e)) in
     let a = c.args in
     let m = a.m.now in
-    let e = found.0 ∙ c.in-Live.is in
+    let e : state_of (slot_in c.args.m.now c.args.at) ≡ Live = cc in
     sym (sym-reinstate-none a.kind m a.used a.n a.at c.if-kind-eq-REMOVE.false (state-has Erased m a.n a.at c.if-n-s.false e))
 
 pub returns-then-kind-eq-REMOVE-2 : goal.returns-then-kind-eq-REMOVE-2
@@ -88,7 +88,7 @@ returns-then-kind-eq-REMOVE-2 c =
     (sym (ap (λ (f : Found). f.state) e), sym (ap (λ (f : Found). f.slot) e)) in
     let a = c.args in
     let m = a.m.now in
-    let e = found.0 ∙ c.in-Erased.is in
+    let e : state_of (slot_in c.args.m.now c.args.at) ≡ Erased = cc in
     sym (sym-remove-none a.kind m a.used a.n a.at c.if-kind-eq-REMOVE-2.true (state-has Live m a.n a.at c.if-n-s.false e))
 
 pub returns-else-kind-eq-REMOVE-2 : goal.returns-else-kind-eq-REMOVE-2
@@ -100,7 +100,7 @@ returns-else-kind-eq-REMOVE-2 c =
     let holds : Holds c.args.m.now c.args.used c.args.n = accepted-tells c.args.m.now c.args.used c.args.n c.requires.0 in
     let a = c.args in
     let m = a.m.now in
-    let e = found.0 ∙ c.in-Erased.is in
+    let e : state_of (slot_in c.args.m.now c.args.at) ≡ Erased = cc in
     let w = reinstate-by holds (λ i. (c.type_inv.m i).fits) a.at c.if-n-s.false e c.requires.1.table in
     c.sym_to_reinstate.ensures
     ∙ ap (λ (t : Slot). sym_to_reinstate (ends_meet index_block_size a.index.now) m a.used t) (sym found.1)
