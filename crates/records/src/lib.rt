@@ -130,7 +130,7 @@ pub fn version_good(h: Header) -> bool
 pub const LINK: usize = 4;
 
 // A symbol block, by where it starts: a link, then 256 entries.
-#[derive(Drop)]
+#[derive(Clone, Copy)]
 pub struct SymbolBlock {
     pub at: usize,
 }
@@ -168,7 +168,7 @@ pub fn size_good(size: u16) -> bool
 }
 
 // A symbol record, by its Size.
-#[derive(Drop)]
+#[derive(Clone, Copy)]
 pub struct SymbolRecord {
     pub size: u16,
 }

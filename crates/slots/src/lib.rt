@@ -11,7 +11,7 @@ use numbers::{put_u16_at, put_u32_at, u16_at, u32_at};
 use records::LINK;
 
 // An index block, by where it starts: a link, then 256 slots.
-#[derive(Drop)]
+#[derive(Clone, Copy)]
 pub struct IndexBlock {
     pub at: usize,
 }

@@ -7,7 +7,7 @@ use find::SearchAnswer;
 use windows::Window;
 
 // The bytes, and the length of the map in them, checked against the limits and the buffer: 0, which no map has, where it is not good.
-#[derive(Drop)]
+#[derive(Clone, Copy)]
 pub struct MapView<'a> {
     pub bytes: &'a [u8],
     pub used: usize,

@@ -15,7 +15,7 @@ use numbers::{at_most, u16_at, u32_at};
 use records::{Header, LINK};
 
 // An index block of 9 to 11, by where it starts: a link, then 256 slots.
-#[derive(Drop)]
+#[derive(Clone, Copy)]
 pub struct WideBlock {
     pub at: usize,
 }
@@ -198,7 +198,7 @@ pub fn wide_bad_slot(m: &[u8], used: usize, index: &[u32], t: WideSlot) -> bool
 }
 
 // A symbol record of 9 to 11, by its Size.
-#[derive(Drop)]
+#[derive(Clone, Copy)]
 pub struct WideRecord {
     pub size: u32,
 }
