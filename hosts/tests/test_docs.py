@@ -92,7 +92,7 @@ class PublicCalls(unittest.TestCase):
 
     def test_public_calls_ask_for_nothing(self) -> None:
         public = NAME.findall(paragraph_with(PROMISES, "The public calls are"))
-        self.assertEqual(len(public), 26)
+        self.assertEqual(len(public), 22)
         for name in public:
             with self.subTest(name=name):
                 self.assertTrue(any("requires" not in found for found in self.contracts(name)))

@@ -10,25 +10,26 @@ use borrow.Author.Tests.{le-leb, lt-leb, eqb-true, eq-eqb}
 use Rattle.numbers.specs.Bytes.{u16_at}
 use Rattle.numbers.proofs.Below.{never}
 use Rattle.records.specs.Headers.{header_of, part_of, pair_good, is_wide, file_type_good, version_good, setup_at, info_at}
-use Rattle.chain.specs.declared.Walk.{Walk}
-use Rattle.chain.specs.declared.Walk.TheVariants.{Blocks, Fault}
+use Rattle.chain.specs.declared.LinkFault.{LinkFault}
 use Rattle.chain.specs.Chains.{walked, taken}
 use Rattle.chain.proofs.Chains.{walked-taken}
-use Rattle.accept.specs.declared.Verdict.TheVariants.{Accepted}
-use Rattle.accept.specs.declared.JudgedMap.{JudgedMap}
-use Rattle.accept.specs.declared.JudgedMap.TheVariants.{Good, Bad}
 use Rattle.judge.specs.Rules.{Family, narrow, family_of, index_rule, symbol_rule, touches, slot_at, entry_at, index_rule_of, symbol_rule_of, touches_of, slot_at_of}
 use Rattle.judge.specs.Judging.{version_of, length_good, part_good, bad_slot, bad_entry}
+use Rattle.std.specs.Prelude.{Result, Ok, Err}
+use Rattle.refusals.specs.declared.Refusal.{Refusal}
+use Rattle.refusals.specs.declared.Refusal.TheVariants.{BadLength, BadMark, BadVersion, BadPart, BadSymbol, BadSlot}
+use Rattle.refusals.specs.Refusals.{Judged, good}
+use Rattle.refusals.proofs.Passing.{refused, unless_tells}
 use Rattle.accept.proofs.Looking.{cells-good, cells-tell}
-use Rattle.accept.proofs.Verdicts.{length-tells, unless-tells, after-tells}
-use Rattle.accept.specs.Verdicts.{first_of, link_judged, parts_judged, fields_judged, header_judged, verdict, Editable, after_index_of, entries_judged_of, slots_judged_of, symbols_judged_of}
+use Rattle.accept.proofs.Verdicts.{length-tells, after-tells}
+use Rattle.accept.specs.Verdicts.{link_judged, parts_judged, fields_judged, header_judged, verdict, Editable, after_index_of, entries_judged_of, slots_judged_of, symbols_judged_of}
 
 -- of a map of the layout f, by the header's answer
 pub record HoldsOf (f : Family) (m : List ℕ) (used n : ℕ) : Type 0 where
-  pub header : header_judged m used ≡ Good
-  pub index : walked (index_rule_of f m) m used ≡ Blocks n
+  pub header : header_judged m used ≡ good
+  pub index : walked (index_rule_of f m) m used ≡ Ok n
   pub symbols : ℕ
-  pub symbol : walked (symbol_rule_of f m n) m used ≡ Blocks symbols
+  pub symbol : walked (symbol_rule_of f m n) m used ≡ Ok symbols
   pub entry : (e : ℕ) → e < 256 * symbols → f.entry_at_fault (touches_of f m n) m used (entry_at m e) ≡ false
   pub slot : (s : ℕ) → s < 256 * n → f.slot_at_fault (touches_of f m n) m used (slot_at_of f m s) ≡ false
 
@@ -41,71 +42,64 @@ pub record Holds (m : List ℕ) (used n : ℕ) : Type 0 where
   pub pair : pair_good (u16_at m 4) (u16_at m 2) ≡ true
   pub setup : part_good used (part_of m setup_at) ≡ true
   pub info : part_good used (part_of m info_at) ≡ true
-  pub index : walked (index_rule m) m used ≡ Blocks n
+  pub index : walked (index_rule m) m used ≡ Ok n
   pub symbols : ℕ
-  pub symbol : walked (symbol_rule m n) m used ≡ Blocks symbols
+  pub symbol : walked (symbol_rule m n) m used ≡ Ok symbols
   pub entry : (e : ℕ) → e < 256 * symbols → bad_entry (touches m n) m used (entry_at m e) ≡ false
   pub slot : (s : ℕ) → s < 256 * n → bad_slot (touches m n) m used (version_of m) (slot_at m s) ≡ false
 
 -- ---- the steps of the verdict
 
-good-not : {k p : ℕ} → Bad k p ≡ Good → ⊥
-good-not e = let z : ◌≡◌ {A = ℕ} 0 1 = cc in omega arith
-
-first_of-good : (j i : JudgedMap) → first_of j i ≡ Good → (j ≡ Good) × (i ≡ Good)
-first_of-good Good i e = (refl, e)
-first_of-good (Bad k p) i e = absurd (good-not e)
-
-cond-good : (b : Bool) (j : JudgedMap) (k p : ℕ) → cond b j (Bad k p) ≡ Good → (b ≡ true) × (j ≡ Good)
-cond-good true j k p e = (refl, e)
-cond-good false j k p e = absurd (good-not e)
+cond-good : (b : Bool) (j : Judged) (r : Refusal) → cond b j (Err r) ≡ good → (b ≡ true) × (j ≡ good)
+cond-good true j r e = (refl, e)
+cond-good false j r e = absurd (refused e)
 
 -- a walk to the end
-link-good : (w : Walk) → link_judged w ≡ Good → (k : ℕ) × (w ≡ Blocks k)
-link-good (Blocks k) e = (k, refl)
-link-good (Fault p k) e = absurd (good-not e)
+link-good : (w : Result ℕ LinkFault) → link_judged w ≡ good → (k : ℕ) × (w ≡ Ok k)
+link-good (Ok k) e = (k, refl)
+link-good (Err x) e = absurd (refused e)
 
-pub blocks-one : {n k : ℕ} → Blocks n ≡ Blocks k → n ≡ k
+pub blocks-one : {n k : ℕ} → ◌≡◌ {A = Result ℕ LinkFault} (Ok n) (Ok k) → n ≡ k
 blocks-one e = cc
 
 -- ---- what an accepted map tells
 
-fields-tell : (m : List ℕ) (used : ℕ) → header_judged m used ≡ Good
+fields-tell : (m : List ℕ) (used : ℕ) → header_judged m used ≡ good
     → (length_good m used ≡ true) × (eqb (u16_at m 0) 3245 ≡ true) × (version_good (header_of m) ≡ true)
-    × (cond (is_wide (version_of m)) Good (parts_judged (header_of m) used) ≡ Good)
+    × (cond (is_wide (version_of m)) good (parts_judged (header_of m) used) ≡ good)
 unfolding header_judged fields_judged header_of
 fields-tell m used e =
-    let a = cond-good (length_good m used) _ 1 0 e in
-    let b = cond-good (eqb (u16_at m 0) 3245) _ 2 0 a.1 in
-    let c = cond-good (version_good (header_of m)) _ 3 0 b.1 in
+    let a = cond-good (length_good m used) _ BadLength e in
+    let b = cond-good (eqb (u16_at m 0) 3245) _ BadMark a.1 in
+    let c = cond-good (version_good (header_of m)) _ BadVersion b.1 in
     (a.0, b.0, c.0, c.1)
 
 -- a map of 6 to 8: its version pair, setup and info
-pub narrow-tells : (m : List ℕ) (used : ℕ) → is_wide (version_of m) ≡ false → header_judged m used ≡ Good
+pub narrow-tells : (m : List ℕ) (used : ℕ) → is_wide (version_of m) ≡ false → header_judged m used ≡ good
     → (pair_good (u16_at m 4) (u16_at m 2) ≡ true) × (part_good used (part_of m setup_at) ≡ true) × (part_good used (part_of m info_at) ≡ true)
 unfolding parts_judged header_of version_good
 narrow-tells m used w e =
     let f = fields-tell m used e in
-    let d = cond-good (part_good used (part_of m setup_at)) _ 4 setup_at (rw w at f.3) in
-    let i = cond-good (part_good used (part_of m info_at)) Good 4 info_at d.1 in
+    let d = cond-good (part_good used (part_of m setup_at)) _ (BadPart setup_at) (rw w at f.3) in
+    let i = cond-good (part_good used (part_of m info_at)) good (BadPart info_at) d.1 in
     (rw w at f.2, d.0, i.0)
 
 -- a map of 9 to 11: its file type
-pub wide-tells : (m : List ℕ) (used : ℕ) → is_wide (version_of m) ≡ true → header_judged m used ≡ Good → file_type_good (version_of m) (get_or m 2 0) ≡ true
+pub wide-tells : (m : List ℕ) (used : ℕ) → is_wide (version_of m) ≡ true → header_judged m used ≡ good → file_type_good (version_of m) (get_or m 2 0) ≡ true
 unfolding header_of version_good
 wide-tells m used w e = rw w at (fields-tell m used e).2
 
-pub header-mark : (m : List ℕ) (used : ℕ) → header_judged m used ≡ Good → u16_at m 0 ≡ 3245
+pub header-mark : (m : List ℕ) (used : ℕ) → header_judged m used ≡ good → u16_at m 0 ≡ 3245
 header-mark m used e = eqb-true (u16_at m 0) 3245 (fields-tell m used e).1
 
 -- an accepted map, of either layout
-pub verdict-tells : (m : List ℕ) (used n : ℕ) → verdict m used ≡ Accepted n → HoldsOf (family_of m) m used n
+pub verdict-tells : (m : List ℕ) (used n : ℕ) → verdict m used ≡ Ok n → HoldsOf (family_of m) m used n
 unfolding verdict symbols_judged_of entries_judged_of slots_judged_of
 verdict-tells m used n e =
     let f : Family = family_of m in
-    let a = unless-tells (header_judged m used) e in
+    let a = unless_tells (header_judged m used) e in
     let r = after-tells f m used (walked (index_rule_of f m) m used) a.1 in
-    let s = first_of-good (entries_judged_of f m used n (taken (symbol_rule_of f m n) m used)) (link_judged (walked (symbol_rule_of f m n) m used)) r.1 in
+    let s = unless_tells (entries_judged_of f m used n (taken (symbol_rule_of f m n) m used)) r.1 in
     let k = link-good (walked (symbol_rule_of f m n) m used) s.1 in
     let t = walked-taken (symbol_rule_of f m n) m used k.1 in
     record {
@@ -113,8 +107,8 @@ verdict-tells m used n e =
       index = r.0;
       symbols = k.0;
       symbol = k.1;
-      entry = cells-tell 6 (λ e. f.entry_at_fault (touches_of f m n) m used (entry_at m e)) (entry_at m) (256 * k.0) (rw t at s.0);
-      slot = cells-tell 7 (λ s. f.slot_at_fault (touches_of f m n) m used (slot_at_of f m s)) (slot_at_of f m) (256 * n) r.2;
+      entry = cells-tell BadSymbol (λ e. f.entry_at_fault (touches_of f m n) m used (entry_at m e)) (entry_at m) (256 * k.0) (rw t at s.0);
+      slot = cells-tell BadSlot (λ s. f.slot_at_fault (touches_of f m n) m used (slot_at_of f m s)) (slot_at_of f m) (256 * n) r.2;
     }
 
 -- and one of 6 to 8
@@ -140,7 +134,7 @@ accepted-tells m used n (e, w) =
 
 -- ---- and back
 
-pub verdict-is : {m : List ℕ} {used n : ℕ} → HoldsOf (family_of m) m used n → verdict m used ≡ Accepted n
+pub verdict-is : {m : List ℕ} {used n : ℕ} → HoldsOf (family_of m) m used n → verdict m used ≡ Ok n
 unfolding verdict after_index_of symbols_judged_of entries_judged_of slots_judged_of
 verdict-is {m} {used} {n} h =
     let f : Family = family_of m in
@@ -149,8 +143,8 @@ verdict-is {m} {used} {n} h =
       h.index,
       h.symbol,
       walked-taken (symbol_rule_of f m n) m used h.symbol,
-      cells-good 6 (λ e. f.entry_at_fault (touches_of f m n) m used (entry_at m e)) (entry_at m) (256 * h.symbols) h.entry,
-      cells-good 7 (λ s. f.slot_at_fault (touches_of f m n) m used (slot_at_of f m s)) (slot_at_of f m) (256 * n) h.slot,
+      cells-good BadSymbol (λ e. f.entry_at_fault (touches_of f m n) m used (entry_at m e)) (entry_at m) (256 * h.symbols) h.entry,
+      cells-good BadSlot (λ s. f.slot_at_fault (touches_of f m n) m used (slot_at_of f m s)) (slot_at_of f m) (256 * n) h.slot,
     )
 
 length-is : (m : List ℕ) (used : ℕ) → 48 ≤ used → used ≤ 16777216 → used ≤ length m → length_good m used ≡ true
@@ -158,11 +152,11 @@ unfolding length_good
 length-is m used l h r = rw (le-leb 48 used l, le-leb used 16777216 h, le-leb used (length m) r)
 
 module _ (m : List ℕ) {used : ℕ} (low : 48 ≤ used) (limit : used ≤ 16777216) (room : used ≤ length m) (mark : u16_at m 0 ≡ 3245) where
-  pub narrow-header : is_wide (version_of m) ≡ false → pair_good (u16_at m 4) (u16_at m 2) ≡ true → part_good used (part_of m setup_at) ≡ true → part_good used (part_of m info_at) ≡ true → header_judged m used ≡ Good
+  pub narrow-header : is_wide (version_of m) ≡ false → pair_good (u16_at m 4) (u16_at m 2) ≡ true → part_good used (part_of m setup_at) ≡ true → part_good used (part_of m info_at) ≡ true → header_judged m used ≡ good
   unfolding header_judged fields_judged parts_judged header_of version_good
   narrow-header w p s i = rw (length-is m used low limit room, eq-eqb (u16_at m 0) 3245 mark, w, p, s, i)
 
-  pub wide-header : is_wide (version_of m) ≡ true → file_type_good (version_of m) (get_or m 2 0) ≡ true → header_judged m used ≡ Good
+  pub wide-header : is_wide (version_of m) ≡ true → file_type_good (version_of m) (get_or m 2 0) ≡ true → header_judged m used ≡ good
   unfolding header_judged fields_judged header_of version_good
   wide-header w t = rw (length-is m used low limit room, eq-eqb (u16_at m 0) 3245 mark, w, t)
 
@@ -184,7 +178,7 @@ pair-narrow v s e = go (eqb v 6) refl (eqb v 7) refl (eqb v 8) refl e
 pub holds-narrow : {m : List ℕ} {used n : ℕ} → Holds m used n → is_wide (version_of m) ≡ false
 holds-narrow {m} h = pair-narrow (version_of m) (u16_at m 2) h.pair
 
-pub accepted-is : {m : List ℕ} {used n : ℕ} → Holds m used n → verdict m used ≡ Accepted n
+pub accepted-is : {m : List ℕ} {used n : ℕ} → Holds m used n → verdict m used ≡ Ok n
 accepted-is {m} {used} {n} h =
     let w = holds-narrow h in
     let o : HoldsOf narrow m used n = record {

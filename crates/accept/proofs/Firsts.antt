@@ -1,9 +1,10 @@
 -- The first number that passes a test, a run of numbers more at a time. Assumes nothing.
 --     first-same      a test that answers alike on the numbers below n has the same first
 --     first-after     the first of a run behind numbers that all fail is the first of all
+--     first_free b f s     the first number by the one found before s, f, and whether s passes
 --     first_or p n d   the first number below n that passes, or else d
 --     or-run          that, with a run of numbers more; or-found, or-not with one more
-use Prim.Native.Nat.{ℕ, ◌+◌, ◌-◌, ◌≤◌, ◌<◌}
+use Prim.Native.Nat.{ℕ, ◌+◌, ◌-◌, ◌≤◌, ◌<◌, min}
 use mathlib.Core.Bool.{Bool, true, false, cond}
 use mathlib.Core.Path.{◌≡◌, refl, sym, ap, ◌∙◌}
 use mathlib.Core.Logic.{⊎_elim}
@@ -13,7 +14,6 @@ use lib.Dec.{ltb}
 use Rattle.numbers.specs.Below.{first}
 use Rattle.numbers.proofs.Below.{First, first-is, first-law}
 use Rattle.numbers.proofs.Coordinates.{lt-or-ge}
-use Rattle.accept.specs.Opens.{first_free}
 
 pub first-same : {p q : ℕ → Bool} {n f : ℕ} → ((i : ℕ) → i < n → q i ≡ p i) → First p n f → First q n f
 first-same {f} e h =
@@ -30,6 +30,18 @@ first-after {p} {n} {f} none h =
       before = λ i l. ⊎_elim (none i) (λ g. let e : n + (i - n) ≡ i = omega arith in ap p (sym e) ∙ h.before (i - n) (omega arith)) (lt-or-ge i n);
       here = λ l. h.here (omega arith);
     }
+
+-- the first number by the one found before s, and whether s passes
+abbrev pub first_free : Bool → ℕ → ℕ → ℕ
+first_free true free s = cond (ltb s free) s free
+first_free false free s = free
+
+pub lesser-free : (free s : ℕ) → min free s ≡ first_free true free s
+lesser-free free s = go (ltb s free) refl
+  where
+    go : (b : Bool) → ltb s free ≡ b → min free s ≡ cond b s free
+    go true e = omega (arith, ltb-true s free e)
+    go false e = omega (arith, ltb-false s free e)
 
 abbrev pub first_or : (ℕ → Bool) → ℕ → ℕ → ℕ
 first_or p n d = cond (ltb (first p n) n) (first p n) d

@@ -1,4 +1,5 @@
 -- Ranges, parts and chains by the conditions of specs/Meets and by the tests: where one says yes, the other does. Assumes nothing.
+use Rattle.std.specs.Prelude.{Ok}
 use Prim.Native.Nat.{ℕ, ◌+◌, ◌<◌, min, max}
 use mathlib.Core.Bool.{Bool, true, false, ◌||◌}
 use mathlib.Core.Path.{◌≡◌, refl, sym, ◌∙◌}
@@ -12,7 +13,6 @@ use Rattle.numbers.specs.Ranges.{share}
 use Rattle.numbers.proofs.Below.{never, any_none, any_false}
 use Rattle.numbers.proofs.Ranges.{share-no, share-comm, within-true, within-is}
 use Rattle.records.specs.declared.Part.{Part}
-use Rattle.chain.specs.declared.Walk.TheVariants.{Blocks}
 use Rattle.chain.specs.Chains.{Rule, block, meets_block, inside, walked, Links, blocks_of}
 use Rattle.chain.proofs.Chains.{Pass, walked-pass, disjoint}
 use Rattle.chain.proofs.AsList.{length-blocks_of, walked-links, links-block}
@@ -97,7 +97,7 @@ module _ (r : Rule) {m : List ℕ} {used : ℕ} {bs : List ℕ} where
       }
 
 -- what a walk to the end gives
-pub walk-list : (r : Rule) (m : List ℕ) (used n : ℕ) → walked r m used ≡ Blocks n
+pub walk-list : (r : Rule) (m : List ℕ) (used n : ℕ) → walked r m used ≡ Ok n
     → (bs : List ℕ) × (length bs ≡ n) × Links m r.head bs × Pass r m used (length bs)
 walk-list r m used n e =
     let z = length-blocks_of r.head m n in

@@ -1,6 +1,6 @@
 -- The look at one cell after the other, for any test `bad` of a cell's place: the cells of one block, and the blocks of a chain.
 --     cells-good, cells-tell            the cells are judged good exactly where none is bad
---     Looking place n bad at c          of n cells, cell c stands at `at`, and no cell before it is bad
+--     Looking place n bad c             of n cells, no cell before cell c is bad
 --     Along r m used w n bad at k       the n blocks pass, their cells have w bytes, link k stands at `at`, and no cell of a block before it is bad
 -- Of each its start, a turn and its two ends, for slots and for symbol entries. Assumes nothing.
 use Prim.Native.Nat.{ℕ, ◌+◌, ◌-◌, ◌*◌, ◌≤◌, ◌<◌}
@@ -20,72 +20,70 @@ use Rattle.chain.specs.Chains.{Rule, place, block}
 use Rattle.chain.specs.Cells.{cell_in, cell_at}
 use Rattle.chain.proofs.Chains.{Pass, few, block_at, place-more}
 use Rattle.chain.proofs.Cells.{cell-no}
-use Rattle.accept.specs.declared.JudgedMap.TheVariants.{Good, Bad}
+use Rattle.std.specs.Prelude.{Err}
+use Rattle.refusals.specs.declared.Refusal.{Refusal}
+use Rattle.refusals.specs.Refusals.{good}
 use Rattle.accept.specs.Verdicts.{cells_judged}
 use Rattle.accept.proofs.Firsts.{first-same, first-after}
 
-module _ (number : ℕ) (bad : ℕ → Bool) (place : ℕ → ℕ) (n : ℕ) where
-  pub cells-good : ((i : ℕ) → i < n → bad i ≡ false) → cells_judged number bad place n ≡ Good
+module _ (refusal : ℕ → Refusal) (bad : ℕ → Bool) (place : ℕ → ℕ) (n : ℕ) where
+  pub cells-good : ((i : ℕ) → i < n → bad i ≡ false) → cells_judged refusal bad place n ≡ good
   unfolding cells_judged
   cells-good h = rw (first-none bad n h, le-ltb n n (omega arith))
 
-  pub cells-tell : cells_judged number bad place n ≡ Good → (i : ℕ) → i < n → bad i ≡ false
+  pub cells-tell : cells_judged refusal bad place n ≡ good → (i : ℕ) → i < n → bad i ≡ false
   unfolding cells_judged
   cells-tell e i l = go (ltb (first bad n) n) refl e
     where
-      go : (b : Bool) → ltb (first bad n) n ≡ b → cond b (Bad number (place (first bad n))) Good ≡ Good → bad i ≡ false
+      go : (b : Bool) → ltb (first bad n) n ≡ b → cond b (Err (refusal (place (first bad n)))) good ≡ good → bad i ≡ false
       go true f g = let z : ◌≡◌ {A = ℕ} 0 1 = cc in let no_way : ⊥ = omega arith in absurd no_way
       go false f g = (first-law bad n).before i (omega (arith, ltb-false (first bad n) n f))
 
   -- the first that is bad, and what an answer tells of it
-  pub cells-bad : {f : ℕ} → First bad n f → f < n → cells_judged number bad place n ≡ Bad number (place f)
+  pub cells-bad : {f : ℕ} → First bad n f → f < n → cells_judged refusal bad place n ≡ Err (refusal (place f))
   unfolding cells_judged
   cells-bad {f} h l = rw (first-is bad n f h.within h.before h.here, lt-ltb f n l)
 
-  pub cells-fault : {x p : ℕ} → cells_judged number bad place n ≡ Bad x p → (x ≡ number) × (p ≡ place (first bad n)) × (first bad n < n)
+  pub cells-fault : {e : Refusal} → cells_judged refusal bad place n ≡ Err e → (e ≡ refusal (place (first bad n))) × (first bad n < n)
   unfolding cells_judged
-  cells-fault {x} {p} e = go (ltb (first bad n) n) refl e
+  cells-fault {e} h = go (ltb (first bad n) n) refl h
     where
-      go : (b : Bool) → ltb (first bad n) n ≡ b → cond b (Bad number (place (first bad n))) Good ≡ Bad x p → (x ≡ number) × (p ≡ place (first bad n)) × (first bad n < n)
-      go true f g = ((cc), (cc), ltb-true (first bad n) n f)
+      go : (b : Bool) → ltb (first bad n) n ≡ b → cond b (Err (refusal (place (first bad n)))) good ≡ Err e → (e ≡ refusal (place (first bad n))) × (first bad n < n)
+      go true f g = ((cc), ltb-true (first bad n) n f)
       go false f g = let z : ◌≡◌ {A = ℕ} 0 1 = cc in let no_way : ⊥ = omega arith in absurd no_way
 
 -- ---- the cells of one block
 
-pub record Looking (place : ℕ → ℕ) (n : ℕ) (bad : ℕ → Bool) (at c : ℕ) : Type 0 where
+pub record Looking (place : ℕ → ℕ) (n : ℕ) (bad : ℕ → Bool) (c : ℕ) : Type 0 where
   pub upto : c ≤ n
-  pub here : at ≡ place c
   pub before : (i : ℕ) → i < c → bad (place i) ≡ false
 
-pub look-start : {place : ℕ → ℕ} {n : ℕ} {bad : ℕ → Bool} {at : ℕ} → at ≡ place 0 → Looking place n bad at 0
-look-start {place} {bad} e = record { upto = omega arith; here = e; before = below_none (λ (i : ℕ). bad (place i) ≡ false) }
+pub look-start : {place : ℕ → ℕ} {n : ℕ} {bad : ℕ → Bool} → Looking place n bad 0
+look-start {place} {bad} = record { upto = omega arith; before = below_none (λ (i : ℕ). bad (place i) ≡ false) }
 
-module _ {place : ℕ → ℕ} {n : ℕ} {bad : ℕ → Bool} {at c : ℕ} (k : Looking place n bad at c) where
+module _ {place : ℕ → ℕ} {n : ℕ} {bad : ℕ → Bool} {c : ℕ} (k : Looking place n bad c) {at : ℕ} (here : at ≡ place c) (l : c < n) {b : Bool} (e : b ≡ bad at) where
   -- a turn: the cell is not bad
-  pub look-on : c < n → {b : Bool} → b ≡ bad at → b ≡ false → {at' : ℕ} → at' ≡ place (c + 1) → Looking place n bad at' (c + 1)
-  look-on l e f g =
-      record {
-        upto = omega arith;
-        here = g;
-        before = below_more (λ (i : ℕ). bad (place i) ≡ false) c k.before (ap bad (sym k.here) ∙ sym e ∙ f);
-      }
+  pub look-on : b ≡ false → Looking place n bad (c + 1)
+  look-on f =
+      record { upto = omega arith; before = below_more (λ (i : ℕ). bad (place i) ≡ false) c k.before (ap bad (sym here) ∙ sym e ∙ f) }
 
   -- the cell is bad: it is the first
-  pub look-bad : (number : ℕ) → c < n → {b : Bool} → b ≡ bad at → b ≡ true → Bad number at ≡ cells_judged number (λ i. bad (place i)) place n
-  look-bad number l e f =
-      ap (Bad number) k.here
-      ∙ sym (cells-bad number (λ i. bad (place i)) place n (record { within = k.upto; before = k.before; here = λ g. ap bad (sym k.here) ∙ sym e ∙ f }) l)
+  pub look-bad : b ≡ true → (refusal : ℕ → Refusal) → Err (refusal at) ≡ cells_judged refusal (λ i. bad (place i)) place n
+  look-bad f refusal =
+      ap (λ p. Err (refusal p)) here
+      ∙ sym (cells-bad refusal (λ i. bad (place i)) place n (record { within = k.upto; before = k.before; here = λ g. ap bad (sym here) ∙ sym e ∙ f }) l)
 
-  -- the number of the first that is bad, n where none is
-  pub look-found : c < n → bad at ≡ true → c ≡ first (λ i. bad (place i)) n
-  look-found l e = sym (first-is (λ i. bad (place i)) n c k.upto k.before (λ g. ap bad (sym k.here) ∙ e))
+  -- its number is that of the first
+  pub look-found : b ≡ true → c ≡ first (λ i. bad (place i)) n
+  look-found f = sym (first-is (λ i. bad (place i)) n c k.upto k.before (λ g. ap bad (sym here) ∙ sym e ∙ f))
 
-  pub look_none : n ≤ c → n ≡ first (λ i. bad (place i)) n
-  look_none l = sym (first-none (λ i. bad (place i)) n (λ i g. k.before i (omega arith)))
-
+module _ {place : ℕ → ℕ} {n : ℕ} {bad : ℕ → Bool} {c : ℕ} (k : Looking place n bad c) (l : n ≤ c) where
   -- every cell was looked at
-  pub look-good : (number : ℕ) → n ≤ c → Good ≡ cells_judged number (λ i. bad (place i)) place n
-  look-good number l = sym (cells-good number (λ i. bad (place i)) place n (λ i g. k.before i (omega arith)))
+  pub look_none : n ≡ first (λ i. bad (place i)) n
+  look_none = sym (first-none (λ i. bad (place i)) n (λ i g. k.before i (omega arith)))
+
+  pub look-good : (refusal : ℕ → Refusal) → good ≡ cells_judged refusal (λ i. bad (place i)) place n
+  look-good refusal = sym (cells-good refusal (λ i. bad (place i)) place n (λ i g. k.before i (omega arith)))
 
 -- ---- the blocks of a chain
 
@@ -122,9 +120,9 @@ module _ {r : Rule} {m : List ℕ} {used w n : ℕ} {bad : ℕ → Bool} {at k :
     same h = first-after {p = λ i. bad (cell_at r.head w m i)} v.before (first-same (λ j g. ap bad (along-cell j g)) h)
 
     -- a turn: no cell of the block is bad
-    pub along-on : 4 ≤ r.size → (number : ℕ) → cells_judged number (λ j. bad (cell_in p w j)) (cell_in p w) 256 ≡ Good → Along r m used w n bad p (k + 1)
-    along-on four number f =
-        let none = cells-tell number (λ j. bad (cell_in p w j)) (cell_in p w) 256 f in
+    pub along-on : 4 ≤ r.size → (refusal : ℕ → Refusal) → cells_judged refusal (λ j. bad (cell_in p w j)) (cell_in p w) 256 ≡ good → Along r m used w n bad p (k + 1)
+    along-on four refusal f =
+        let none = cells-tell refusal (λ j. bad (cell_in p w j)) (cell_in p w) 256 f in
         let h = same {f = 256} (record { within = omega arith; before = none; here = λ g. absurd (omega arith) }) in
         record {
           pass = v.pass;
@@ -135,17 +133,18 @@ module _ {r : Rule} {m : List ℕ} {used w n : ℕ} {bad : ℕ → Bool} {at k :
         }
 
     -- the first that is bad in the block is the first of all
-    pub along-bad : (number : ℕ) {x q : ℕ} → cells_judged number (λ j. bad (cell_in p w j)) (cell_in p w) 256 ≡ Bad x q → Bad x q ≡ cells_judged number (λ i. bad (cell_at r.head w m i)) (cell_at r.head w m) (256 * n)
-    along-bad number f =
-        let t = cells-fault number (λ j. bad (cell_in p w j)) (cell_in p w) 256 f in
+    pub along-bad : (refusal : ℕ → Refusal) {x : Refusal} → cells_judged refusal (λ j. bad (cell_in p w j)) (cell_in p w) 256 ≡ Err x
+        → Err x ≡ cells_judged refusal (λ i. bad (cell_at r.head w m i)) (cell_at r.head w m) (256 * n)
+    along-bad refusal f =
+        let t = cells-fault refusal (λ j. bad (cell_in p w j)) (cell_in p w) 256 f in
         let h = same (first-law (λ j. bad (cell_in p w j)) 256) in
         let o = first (λ j. bad (cell_in p w j)) 256 in
-        rw (t.0, t.1, ← along-cell o t.2)
-        (sym (cells-bad number (λ i. bad (cell_at r.head w m i)) (cell_at r.head w m) (256 * n)
-        (record { within = omega (arith, t.2); before = h.before; here = λ g. h.here (omega (arith, t.2)) })
-        (omega (arith, t.2))))
+        rw (t.0, ← along-cell o t.1)
+        (sym (cells-bad refusal (λ i. bad (cell_at r.head w m i)) (cell_at r.head w m) (256 * n)
+        (record { within = omega (arith, t.1); before = h.before; here = λ g. h.here (omega (arith, t.1)) })
+        (omega (arith, t.1))))
 
   -- every block was looked at
-  pub along-good : (number : ℕ) → n ≤ k → Good ≡ cells_judged number (λ i. bad (cell_at r.head w m i)) (cell_at r.head w m) (256 * n)
-  along-good number l =
-      sym (cells-good number (λ i. bad (cell_at r.head w m i)) (cell_at r.head w m) (256 * n) (λ i g. v.before i (omega arith)))
+  pub along-good : (refusal : ℕ → Refusal) → n ≤ k → good ≡ cells_judged refusal (λ i. bad (cell_at r.head w m i)) (cell_at r.head w m) (256 * n)
+  along-good refusal l =
+      sym (cells-good refusal (λ i. bad (cell_at r.head w m i)) (cell_at r.head w m) (256 * n) (λ i g. v.before i (omega arith)))

@@ -32,7 +32,7 @@ use Rattle.chain.proofs.AsList.{links-block, links-walked}
 use Rattle.judge.specs.Rules.{Family, narrow, wide, family_for, index_rule_of, symbol_rule_of, touches_of, slot_at_of, entry_at}
 use Rattle.judge.specs.Judging.{version_of, header_fits, is_live, slot_good, bad_slot, symbol_good, bad_entry}
 use Rattle.judge.proofs.Telling.{and-true, slot_is, slot-tells}
-use Rattle.accept.specs.declared.JudgedMap.TheVariants.{Good}
+use Rattle.refusals.specs.Refusals.{good}
 use Rattle.accept.specs.Verdicts.{header_judged}
 use Rattle.accept.specs.Meets.{Inside, Off, GoodRecord, GoodWideRecord, GoodLive, HasBytes, GoodWideLive, Conditions, narrow_conditions, wide_conditions, conditions_for, MeetsOf, AcceptedExactly}
 use Rattle.accept.proofs.Verdicts.{header-tells}
@@ -43,7 +43,7 @@ use Rattle.accept.proofs.Listed.{inside_of, present-of, keeps-off, off_of, meets
 
 record Faithful (f : Family) (c : Conditions) (m : List ℕ) (used : ℕ) : Type 0 where
   some : 0 < f.block
-  header : header_size ≤ used → used ≤ map_limit → used ≤ length m → u16_at m 0 ≡ 3245 → (header_judged m used ≡ Good) ↔ c.Header m used
+  header : header_size ≤ used → used ≤ map_limit → used ≤ length m → u16_at m 0 ≡ 3245 → (header_judged m used ≡ good) ↔ c.Header m used
   others : (bs : List ℕ) → ((k : ℕ) → k < length bs → f.taboo m (get_or bs k 0) ≡ false) ↔ c.OffOthers m bs
   entry : {bs : List ℕ} → Links m index_head bs → (p : ℕ)
       → (f.entry_at_fault (touches_of f m (length bs)) m used p ≡ false) ↔ ((u32_at m p ≡ 0 → ⊥) → c.Record m used bs (u32_at m p))

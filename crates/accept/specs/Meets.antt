@@ -12,7 +12,7 @@
 --                             of the live slot at a place
 --     MeetsOf                 the whole, with n index blocks, for a layout f (`judge`, Rules) and its conditions
 --     Meets m used n          that, for the layout of the map's version
-use Rattle.std.specs.Prelude.{ℕ, ◌+◌, ◌*◌, ◌/◌, ◌%◌, ◌≤◌, ◌<◌, Bool, true, false, ◌⊎◌, ◌≡◌, List, length, get_or, drop}
+use Rattle.std.specs.Prelude.{ℕ, ◌+◌, ◌*◌, ◌/◌, ◌%◌, ◌≤◌, ◌<◌, Bool, true, false, ◌⊎◌, ◌≡◌, List, length, get_or, drop, Ok}
 use Rattle.std.specs.Int.Signed.{le_z}
 use Rattle.numbers.specs.Bytes.{u16_at, u32_at}
 use Rattle.numbers.specs.Coordinates.{value_of}
@@ -28,7 +28,6 @@ use Rattle.slots.specs.Objects.{object_of, type_good}
 use Rattle.records.specs.Symbols.{size_good}
 use Rattle.chain.specs.Chains.{Links}
 use Rattle.chain.specs.Cells.{cell_in}
-use Rattle.accept.specs.declared.Verdict.TheVariants.{Accepted}
 use Rattle.judge.specs.Judging.{version_of}
 use Rattle.judge.specs.Rules.{Family, family_of}
 use Rattle.accept.specs.Verdicts.{verdict}
@@ -177,4 +176,4 @@ abbrev pub Meets : List ℕ → ℕ → ℕ → Type 0
 Meets m = MeetsOf (family_of m) (conditions_for (is_wide (version_of m))) m
 
 abbrev pub AcceptedExactly : Type 0
-AcceptedExactly = (m : List ℕ) (used n : ℕ) → (Meets m used n → verdict m used ≡ Accepted n) × (verdict m used ≡ Accepted n → Meets m used n)
+AcceptedExactly = (m : List ℕ) (used n : ℕ) → (Meets m used n → verdict m used ≡ Ok n) × (verdict m used ≡ Ok n → Meets m used n)

@@ -4,213 +4,151 @@
 mod entries;
 mod fields;
 mod live;
-mod wide_slots;
 
-ghost use Rattle.std.specs.Prelude.{◌≡◌, true, ℕ, ◌+◌, ◌*◌, ◌≤◌, ◌<◌, length};
+ghost use Rattle.std.specs.Prelude.{◌≡◌, Ok, ℕ, ◌+◌, ◌*◌, ◌≤◌, ◌<◌, length};
 ghost use Rattle.records.specs.Sizes.{header_size, index_block_size, index_page, map_limit};
 ghost use Rattle.records.specs.Headers.{index_head};
-ghost use Rattle.chain.specs.Chains.{walked, taken};
+ghost use Rattle.chain.specs.Chains.{walked};
 ghost use Rattle.chain.specs.Tables.{Empty, Placed, Filled, Table, EndsTable};
-ghost use Rattle.chain.specs.declared.Walk.TheVariants.{Blocks};
-ghost use Rattle.accept.specs.declared.Verdict.TheVariants.{Accepted};
-ghost use Rattle.accept.specs.declared.ExaminedMap.TheVariants as examined;
-ghost use Rattle.records.specs.Headers.{is_wide};
-ghost use Rattle.judge.specs.Judging.{version_of};
-ghost use Rattle.judge.specs.Rules.{wide, family_of, index_rule_of};
-ghost use Rattle.accept.specs.Opens.{opened_after, opened_of, after_opened, OpenOf, Open, Opens, with_free};
-ghost use Rattle.accept.specs.Verdicts.{number_of, place_of, unless, slots_judged, after_index, verdict, Checked};
+ghost use Rattle.accept.specs.declared.ExaminedMap.TheVariants.{Accepted};
+ghost use Rattle.judge.specs.Rules.{family_for, family_of, index_rule_of};
+ghost use Rattle.refusals.specs.Refusals.{unless};
+ghost use Rattle.accept.specs.Opens.{opened_after, opened_of, OpenOf, Open, Opens, blocks_of, with_free};
+ghost use Rattle.accept.specs.Verdicts.{symbols_judged_of, slots_judged, after_index, verdict, Checked};
 
-use chain::{Walk, fill, walk_chain};
+use chain::{fill, walk_chain};
 use entries::judge_symbols;
 use fields::judge_header;
-use judge::{block_size, index_kind, page_size};
+use judge::{Layout, Narrow, Wide, index_kind};
 use live::judge_slots;
 use numbers::{u16_at, u32_at};
 use records::{Header, is_wide};
+use refusals::Refusal;
 use slots::IndexBlock;
-use wide_slots::judge_wide_slots;
 
-// What the check answers. Refusals carry document 01's number and place.
-#[derive(Clone, Copy)]
-pub enum Verdict {
-    Accepted { blocks: usize },
-    Refused { number: u32, place: u32 },
-}
-
-// What the examination for an edit answers: accepted, with the number of index blocks and the first free slot, 256 times the blocks where none is free; or
-// accepted and of 9 to 11, which no edit takes.
+// What the examination for an edit finds in a map that is accepted: the number of index blocks and the first free slot, 256 times the blocks where none is free;
+// or that it is of 9 to 11, which no edit takes.
 #[derive(Clone, Copy)]
 pub enum ExaminedMap {
     Accepted { blocks: usize, free: usize },
     Wide { blocks: usize },
-    Refused { number: u32, place: u32 },
 }
 
-// What 1 to 6 answer: the number of index blocks, or a refusal.
-#[derive(Clone, Copy)]
-pub enum OpenedMap {
-    Blocks(usize),
-    Refused { number: u32, place: u32 },
-}
-
-// What was judged: good, or at fault with document 01's number and place.
-#[derive(Clone, Copy)]
-pub enum JudgedMap {
-    Good,
-    Bad { number: u32, place: u32 },
-}
-
-// Document 01's number of an answer.
-pub fn number(v: Verdict) -> u32
-    ensures { result ≡ number_of v }
-{
-    match v {
-        Verdict::Accepted { blocks: _ } => 0,
-        Verdict::Refused { number, place: _ } => number,
+impl ExaminedMap {
+    // The number of index blocks.
+    fn blocks(self) -> usize
+        ensures { result ≡ blocks_of self }
+    {
+        match self {
+            ExaminedMap::Accepted { blocks, .. } | ExaminedMap::Wide { blocks } => blocks,
+        }
     }
 }
 
-// Document 01's place of an answer.
-pub fn place(v: Verdict) -> u32
-    ensures { result ≡ place_of v }
-{
-    match v {
-        Verdict::Accepted { blocks: _ } => 0,
-        Verdict::Refused { number: _, place } => place,
-    }
-}
-
-// 6, of a map whose index blocks are good. Their table is filled first.
-fn open_symbols(m: &[u8], used: usize, index: &mut [u32], n: usize) -> OpenedMap
+// 6, of a map of the layout L whose index blocks are good. Their table is filled first.
+fn open_symbols<L: Layout>(
+    m: &[u8],
+    used: usize,
+    index: &mut [u32],
+    n: usize,
+) -> Result<usize, Refusal>
     requires { (header_size ≤ used) × (used ≤ map_limit) × (used ≤ length m.now) × (used + index_page ≤ length index.old * index_page)
-        × (walked (index_rule_of (family_of m.now) m.now) m.now used ≡ Blocks n) × Placed (family_of m.now).page index.old
-        × Table index_head (family_of m.now).page m.now n index.old }
-    ensures { (result ≡ opened_after m.now used (Blocks n)) × Opens m.now used index.new result }
+        × (walked (index_rule_of (family_for L.wide) m.now) m.now used ≡ Ok n) × Placed (family_for L.wide).page index.old
+        × Table index_head (family_for L.wide).page m.now n index.old }
+    ensures { (result ≡ unless (symbols_judged_of (family_for L.wide) m.now used n) (Ok n))
+        × ((k : ℕ) → result ≡ Ok k → OpenOf (family_for L.wide) m.now used k index.new) }
 {
-    let version = u16_at(m, Header::VERSION);
-    let page = page_size(version);
-    let block = block_size(version);
-    fill(index, (used - 1) / page + 2, block as u32);
-    let symbols = judge_symbols(m, used, index, n);
-    match symbols {
-        JudgedMap::Bad { number, place } => OpenedMap::Refused { number, place },
-        JudgedMap::Good => OpenedMap::Blocks(n),
-    }
+    fill(index, (used - 1) / L::PAGE + 2, L::BLOCK as u32);
+    judge_symbols::<L>(m, used, index, n)?;
+    Ok(n)
 }
 
 // 5, then 6.
-fn open_index(m: &[u8], used: usize, index: &mut [u32]) -> OpenedMap
+fn open_index(m: &[u8], used: usize, index: &mut [u32]) -> Result<usize, Refusal>
     requires { (header_size ≤ used) × (used ≤ map_limit) × (used ≤ length m.now) × (used + index_page ≤ length index.old * index_page) × Empty index.old }
     ensures { (result ≡ opened_after m.now used (walked (index_rule_of (family_of m.now) m.now) m.now used))
         × Opens m.now used index.new result }
 {
     let none = [0u32; 2];
-    let w = walk_chain(m, used, index_kind(Header::of(m)), &none, index);
-    match w {
-        Walk::Blocks(n) => open_symbols(m, used, index, n),
-        Walk::Fault { place, taken: _ } => OpenedMap::Refused {
-            number: 5,
-            place: place as u32,
-        },
+    let h = Header::of(m);
+    match walk_chain(m, used, index_kind(h), &none, index) {
+        Ok(n) => {
+            if is_wide(h.version) {
+                open_symbols::<Wide>(m, used, index, n)
+            } else {
+                open_symbols::<Narrow>(m, used, index, n)
+            }
+        }
+        Err(f) => Err(Refusal::BadIndex {
+            place: f.place as u32,
+        }),
     }
 }
 
 // 1 to 6, with a lent table, empty before, that has the index blocks, filled, afterwards where they are good. What is left of the check is 7.
-pub fn open_map(m: &[u8], used: usize, index: &mut [u32]) -> OpenedMap
+pub fn open_map(m: &[u8], used: usize, index: &mut [u32]) -> Result<usize, Refusal>
     requires { (used ≤ map_limit → used + index_page ≤ length index.old * index_page) × Empty index.old }
     ensures { (result ≡ opened_of m.now used) × Opens m.now used index.new result }
 {
-    let j = judge_header(m, used);
-    match j {
-        JudgedMap::Bad { number, place } => OpenedMap::Refused { number, place },
-        JudgedMap::Good => open_index(m, used, index),
-    }
+    judge_header(m, used)?;
+    open_index(m, used, index)
 }
 
-// 7, of a map of 9 to 11.
-fn examine_wide(m: &[u8], used: usize, index: &[u32], n: usize) -> ExaminedMap
-    requires { OpenOf wide m.now used n index.now × (is_wide (version_of m.now) ≡ true) }
-    ensures { result ≡ with_free m.now (unless (slots_judged m.now used n) (Accepted n)) }
-{
-    let j = judge_wide_slots(m, used, index, n);
-    match j {
-        JudgedMap::Bad { number, place } => ExaminedMap::Refused { number, place },
-        JudgedMap::Good => ExaminedMap::Wide { blocks: n },
-    }
-}
-
-// 7, by the layout of the map.
-fn examine_slots(m: &[u8], used: usize, index: &[u32], n: usize) -> ExaminedMap
+// 7, of a map that was opened, by its layout.
+fn examine_slots(m: &[u8], used: usize, index: &[u32], n: usize) -> Result<ExaminedMap, Refusal>
     requires { Open m.now used n index.now }
-    ensures { result ≡ with_free m.now (unless (slots_judged m.now used n) (Accepted n)) }
+    ensures { result ≡ with_free m.now (unless (slots_judged m.now used n) (Ok n)) }
 {
     if is_wide(u16_at(m, Header::VERSION)) {
-        return examine_wide(m, used, index, n);
-    }
-    judge_slots(m, used, index, n)
-}
-
-// 7, of a map that was opened. It stands apart from the opening, whose tables are then gone.
-fn examine_opened(m: &[u8], used: usize, index: &[u32], o: OpenedMap) -> ExaminedMap
-    requires { Opens m.now used index.now o }
-    ensures { result ≡ with_free m.now (after_opened m.now used o) }
-{
-    match o {
-        OpenedMap::Refused { number, place } => ExaminedMap::Refused { number, place },
-        OpenedMap::Blocks(n) => examine_slots(m, used, index, n),
+        judge_slots::<Wide>(m, used, index, n)?;
+        Ok(ExaminedMap::Wide { blocks: n })
+    } else {
+        let free = judge_slots::<Narrow>(m, used, index, n)?;
+        Ok(ExaminedMap::Accepted { blocks: n, free })
     }
 }
 
 // The check, with a lent table, empty before, that has the index blocks, filled, afterwards where the map is accepted.
-pub fn examine(m: &[u8], used: usize, index: &mut [u32]) -> ExaminedMap
+pub fn examine(m: &[u8], used: usize, index: &mut [u32]) -> Result<ExaminedMap, Refusal>
     requires { (used ≤ map_limit → used + index_page ≤ length index.old * index_page) × Empty index.old }
     ensures { (result ≡ with_free m.now (verdict m.now used))
-        × ((n free : ℕ) → result ≡ examined.Accepted n free → Filled index_block_size index_page used index.new
+        × ((n free : ℕ) → result ≡ Ok (Accepted n free) → Filled index_block_size index_page used index.new
         × EndsTable index_block_size index_head index_page m.now n index.new) }
 {
-    let o = open_map(m, used, index);
-    examine_opened(m, used, index, o)
+    let n = open_map(m, used, index)?;
+    examine_slots(m, used, index, n)
 }
 
-// 5, 6 and 7 of a map whose header is good, with a lent table, empty before.
-fn judge_with(m: &[u8], used: usize, index: &mut [u32]) -> Verdict
-    requires { (header_size ≤ used) × (used ≤ map_limit) × (used ≤ length m.now) × (used + index_page ≤ length index.old * index_page) × Empty index.old }
+// 5, 6 and 7 of a map whose header is good, with a table of N entries for the index blocks.
+fn judge_with_table<const N: usize>(m: &[u8], used: usize) -> Result<usize, Refusal>
+    requires { (header_size ≤ used) × (used ≤ map_limit) × (used ≤ length m.now) × (used + index_page ≤ N * index_page) × (N ≤ 65536) }
     ensures { result ≡ after_index m.now used (walked (index_rule_of (family_of m.now) m.now) m.now used) }
 {
-    let o = open_index(m, used, index);
-    let e = examine_opened(m, used, index, o);
-    match e {
-        ExaminedMap::Accepted { blocks, free: _ } => Verdict::Accepted { blocks },
-        ExaminedMap::Wide { blocks } => Verdict::Accepted { blocks },
-        ExaminedMap::Refused { number, place } => Verdict::Refused { number, place },
-    }
+    let mut index = [0u32; N];
+    let n = open_index(m, used, &mut index)?;
+    let examined = examine_slots(m, used, &index, n)?;
+    Ok(examined.blocks())
 }
 
 // 5, 6 and 7 of a map whose header is good, with a table as large as the map needs: none where it has neither index blocks nor symbol blocks.
-fn judge_chains(m: &[u8], used: usize) -> Verdict
+fn judge_chains(m: &[u8], used: usize) -> Result<usize, Refusal>
     requires { (header_size ≤ used) × (used ≤ map_limit) × (used ≤ length m.now) }
     ensures { result ≡ after_index m.now used (walked (index_rule_of (family_of m.now) m.now) m.now used) }
 {
-    if u32_at(m, Header::INDEX) == 0 {
-        if u32_at(m, Header::SYMBOLS) == 0 {
-            return Verdict::Accepted { blocks: 0 };
-        }
+    if u32_at(m, Header::INDEX) == 0 && u32_at(m, Header::SYMBOLS) == 0 {
+        return Ok(0);
     }
     if used <= Header::SMALL {
-        let mut index = [0u32; IndexBlock::SMALL_TABLE];
-        return judge_with(m, used, &mut index);
+        judge_with_table::<{ IndexBlock::SMALL_TABLE }>(m, used)
+    } else {
+        judge_with_table::<{ IndexBlock::TABLE }>(m, used)
     }
-    let mut index = [0u32; IndexBlock::TABLE];
-    judge_with(m, used, &mut index)
 }
 
-// The check of the first `used` bytes of a buffer. Any slice, any `used`.
-pub fn check(m: &[u8], used: usize) -> Verdict
+// The check of the first `used` bytes of a buffer. Any slice, any `used`. Accepted, it answers with the number of index blocks.
+pub fn check(m: &[u8], used: usize) -> Result<usize, Refusal>
     ensures { Checked m.now used result }
 {
-    let j = judge_header(m, used);
-    match j {
-        JudgedMap::Bad { number, place } => Verdict::Refused { number, place },
-        JudgedMap::Good => judge_chains(m, used),
-    }
+    judge_header(m, used)?; // 1 to 4
+    judge_chains(m, used) // 5 to 7
 }

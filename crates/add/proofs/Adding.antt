@@ -1,5 +1,6 @@
 -- The laws of an add, as the code makes it: the first free slot, the writes, and the add by how it starts.
 --     lent-over           the whole after a run of stores at the start of a part that was lent to its end
+--     object-over         the whole after a copy over a part
 --     length-free ..      the new length and the new map, with a free slot and without
 --     block-put           a block of zeros with a slot stored in it is the block for that slot
 --     fresh-malformed ..  an add under a new number, by its tests in their order
@@ -8,13 +9,14 @@
 use Prim.Native.Nat.{ℕ, ◌+◌, ◌-◌, ◌*◌, ◌≤◌, ◌<◌}
 use mathlib.Core.Bool.{Bool, true, false, cond, ◌&&◌}
 use mathlib.Core.Path.{◌≡◌, refl, sym, ap, ◌∙◌}
-use mathlib.Core.List.{List, ◌++◌, append_assoc}
+use mathlib.Core.List.{List, ◌++◌, append_assoc, append-nil}
 use native.Mathlib.Omega.{arith}
 use lib.Dec.{eqb, ltb}
 use lib.ListN.{length, take, drop, replicate, length-append, length-replicate, replicate-append-replicate}
-use lib.Seq.{sets, length-sets, take_at, drop_at}
+use Rattle.std.proofs.Math.Seq.{drop-length}
+use lib.Seq.{sets, take_at, drop_at}
 use borrow.Author.Tests.{lt-ltb, le-ltb, ltb-true, lt-leb, le-leb}
-use Rattle.numbers.proofs.Bytes.{lent-sets, sets-splice}
+use Rattle.numbers.proofs.Bytes.{lent-sets, sets-splice, sets-part, sets-front}
 use Rattle.slots.specs.declared.Slot.{Slot}
 use Rattle.slots.specs.Slots.{slot_bytes}
 use Rattle.records.specs.Journals.{record_for}
@@ -24,7 +26,10 @@ use Rattle.judge.proofs.Telling.{and-true}
 use Rattle.journal.specs.declared.JournalLook.TheVariants.{Held}
 use Rattle.journal.specs.Journals.{record_in, slot_used, holder, is_full, appended, looked}
 use Rattle.journal.proofs.Journals.{good-tells, well-formed-tells, held_tells, looked-held}
-use Rattle.edit.specs.declared.EditAnswer.TheVariants.{Done, Refused}
+use Rattle.std.specs.Prelude.{Ok, Err}
+use Rattle.refusals.specs.declared.Refusal.{Refusal}
+use Rattle.refusals.specs.declared.Refusal.TheVariants.{BadObject, NoRoom, JournalFull}
+use Rattle.edit.specs.declared.EditAnswer.TheVariants.{Done}
 use Rattle.edit.specs.declared.EditStart.TheVariants as starts
 use Rattle.accept.specs.Slots.{slot_in, free_slot}
 use Rattle.add.specs.Objects.{pair_limit, offered_good, block_for, is_object}
@@ -37,6 +42,10 @@ use Rattle.add.proofs.Objects.{offered-tells}
 pub lent-over : (vs xs ys : List ℕ) (a : ℕ) → a + length vs ≤ length xs → ys ≡ sets (take (length xs - a) (drop a xs)) 0 vs
     → take a xs ++ (ys ++ drop (length xs - a) (drop a xs)) ≡ sets xs a vs
 lent-over vs xs ys a h e = lent-sets vs xs ys a (length xs - a) (omega arith) e
+
+-- a part that is written over whole
+pub object-over : (xs ys vs : List ℕ) (a : ℕ) → a + length vs ≤ length xs → ys ≡ vs → take a xs ++ (ys ++ drop (a + length vs - a) (drop a xs)) ≡ sets xs a vs
+object-over xs ys vs a h e = sets-part xs ys vs a (a + length vs - a) e (omega arith) h
 
 -- ---- with a free slot, and without
 
@@ -89,14 +98,19 @@ block-over xs t k h =
     ∙ over (replicate 4 0) (replicate 24 0) (replicate k 0) (slot_bytes t) xs (sym (length-slot_bytes t))
     (simp (length-replicate {A = ℕ} k 0) (omega arith))
 
--- as the code makes it: xs is a part of a block's size, l what was left of it when it was cleared, and ys the slot's part of that
-pub block-put : (xs l ys : List ℕ) (t : Slot) → length xs ≡ 6148 → l ≡ sets xs 0 (replicate (length xs) 0) → ys ≡ sets (take (length l - 4) (drop 4 l)) 0 (slot_bytes t)
+-- a list that is written over all of another
+sets-all : (xs vs : List ℕ) → length vs ≡ length xs → sets xs 0 vs ≡ vs
+sets-all xs vs e = sym (sets-front xs vs vs (length xs) refl (sym e) (omega arith)) ∙ rw (drop-length xs) (append-nil vs)
+
+-- as the code makes it: xs is a part of a block's size, l what was left of it when it was filled with zeros, and ys the slot's part of that
+pub block-put : (xs l ys : List ℕ) (t : Slot) → length xs ≡ 6148 → l ≡ replicate (length xs) 0 → ys ≡ sets (take (length l - 4) (drop 4 l)) 0 (slot_bytes t)
     → take 4 l ++ (ys ++ drop (length l - 4) (drop 4 l)) ≡ sets xs 0 (block_for t)
 unfolding block_for
 block-put xs l ys t h e f =
-    let long : length l ≡ length xs = ap length e ∙ length-sets xs 0 (replicate (length xs) 0) in
+    let long : length l ≡ length xs = ap length e ∙ length-replicate {A = ℕ} (length xs) 0 in
+    let all : l ≡ sets xs 0 (replicate (length xs) 0) = e ∙ sym (sets-all xs (replicate (length xs) 0) (length-replicate {A = ℕ} (length xs) 0)) in
     lent-over (slot_bytes t) l ys 4 (omega (arith, length-slot_bytes t)) f
-    ∙ ap (λ (x : List ℕ). sets x 4 (slot_bytes t)) (e ∙ ap (λ (k : ℕ). sets xs 0 (replicate k 0)) h)
+    ∙ ap (λ (x : List ℕ). sets x 4 (slot_bytes t)) (all ∙ ap (λ (k : ℕ). sets xs 0 (replicate k 0)) h)
     ∙ block-over xs t 6120 (omega arith)
 
 -- ---- an offered object is not long
@@ -114,29 +128,29 @@ offered-most v o e = let g = offered-tells v o e in omega (arith, g.exact, g.few
 -- ---- an add under a new number, by its tests in their order
 
 module _ (m : List ℕ) (used : ℕ) (j : List ℕ) (e : ℕ) (o : List ℕ) (n : ℕ) where
-  pub fresh-malformed : offered_good (version_of m) o ≡ false → fresh_add m used j e o n ≡ saying m j (Refused 10 0)
+  pub fresh-malformed : offered_good (version_of m) o ≡ false → fresh_add m used j e o n ≡ saying m j (Err BadObject)
   unfolding fresh_add
   fresh-malformed g = rw g
 
   module _ (good : offered_good (version_of m) o ≡ true) where
-    pub fresh-long : 16777216 < new_length m used n o → fresh_add m used j e o n ≡ saying m j (Refused 11 0)
+    pub fresh-long : 16777216 < new_length m used n o → fresh_add m used j e o n ≡ saying m j (Err NoRoom)
     unfolding fresh_add
     fresh-long l = rw (good, lt-leb (new_length m used n o) 16777216 l)
 
     module _ (limit : new_length m used n o ≤ 16777216) where
-      pub fresh-tight : length m < new_length m used n o → fresh_add m used j e o n ≡ saying m j (Refused 11 0)
+      pub fresh-tight : length m < new_length m used n o → fresh_add m used j e o n ≡ saying m j (Err NoRoom)
       unfolding fresh_add
       fresh-tight l = rw (good, le-leb (new_length m used n o) 16777216 limit, lt-leb (new_length m used n o) (length m) l)
 
       module _ (room : new_length m used n o ≤ length m) where
-        pub fresh-full : is_full j ≡ true → fresh_add m used j e o n ≡ saying m j (Refused 15 0)
+        pub fresh-full : is_full j ≡ true → fresh_add m used j e o n ≡ saying m j (Err JournalFull)
         unfolding fresh_add
         fresh-full f = rw (good, le-leb (new_length m used n o) 16777216 limit, le-leb (new_length m used n o) (length m) room, f)
 
         pub fresh-done : is_full j ≡ false
             → fresh_add m used j e o n
             ≡ record {
-              answer = Done (free_slot m n) (new_length m used n o);
+              answer = Ok (Done (free_slot m n) (new_length m used n o));
               map = added_map m used n o;
               journal = appended j (record_for e 1 (free_slot m n));
             }
@@ -144,7 +158,7 @@ module _ (m : List ℕ) (used : ℕ) (j : List ℕ) (e : ℕ) (o : List ℕ) (n 
         fresh-done f = rw (good, le-leb (new_length m used n o) 16777216 limit, le-leb (new_length m used n o) (length m) room, f)
 
 -- the slot of a record that holds a number is there
-pub held-there : (jn m : List ℕ) (n e kind slot : ℕ) → looked jn m n e ≡ Held kind slot → slot < 256 * n
+pub held-there : (jn m : List ℕ) (n e kind slot : ℕ) → looked jn m n e ≡ Ok (Held kind slot) → slot < 256 * n
 unfolding slot_used
 held-there jn m n e kind slot q =
     let l = looked-held jn m n e kind slot q in
@@ -154,15 +168,15 @@ held-there jn m n e kind slot q =
 -- ---- the add, by how it starts
 
 module _ (m : List ℕ) (used : ℕ) (j : List ℕ) (e : ℕ) (o : List ℕ) where
-  pub added-refused : (k p : ℕ) → start_of m used j e ≡ starts.Refused k p → added m used j e o ≡ saying m j (Refused k p)
+  pub added-refused : {r : Refusal} → start_of m used j e ≡ Err r → added m used j e o ≡ saying m j (Err r)
   unfolding added
-  added-refused k p q = rw q
+  added-refused q = rw q
 
-  pub added-held : (n kind slot : ℕ) → start_of m used j e ≡ starts.Held n kind slot → added m used j e o ≡ repeat_add m used j o kind slot
+  pub added-held : (n kind slot : ℕ) → start_of m used j e ≡ Ok (starts.Held n kind slot) → added m used j e o ≡ repeat_add m used j o kind slot
   unfolding added
   added-held n kind slot q = rw q
 
-  pub added_new : (n k f : ℕ) → start_of m used j e ≡ starts.New n k f → added m used j e o ≡ fresh_add m used j e o n
+  pub added_new : (n k f : ℕ) → start_of m used j e ≡ Ok (starts.New n k f) → added m used j e o ≡ fresh_add m used j e o n
   unfolding added
   added_new n k f q = rw q
 

@@ -5,7 +5,9 @@
 --     repeat_add              an add under a number that is held: an add whose slot's object equals the offered bytes is "done before", anything else 14
 --     fresh_add, added        the add: 10, then 11, then 15, then done
 --     Added                  its result: the answer a, and the map m' and the journal j' afterwards
-use Rattle.std.specs.Prelude.{ℕ, ◌+◌, ◌*◌, Bool, cond, ◌&&◌, List, eqb, leb, ltb, length}
+use Rattle.std.specs.Prelude.{ℕ, ◌+◌, ◌*◌, Bool, cond, ◌&&◌, List, eqb, leb, ltb, length, Result, Ok, Err}
+use Rattle.refusals.specs.declared.Refusal.{Refusal}
+use Rattle.refusals.specs.declared.Refusal.TheVariants.{BadObject, NoRoom, NumberHeld, JournalFull}
 use Rattle.std.proofs.lemmas.List.Edits.{sets}
 use Rattle.numbers.specs.Bytes.{bytes_of}
 use Rattle.slots.specs.declared.Slot.{Slot}
@@ -18,7 +20,7 @@ use Rattle.judge.specs.Rules.{slot_at}
 use Rattle.judge.specs.Judging.{version_of}
 use Rattle.journal.specs.Journals.{is_full, appended}
 use Rattle.edit.specs.declared.EditAnswer.{EditAnswer}
-use Rattle.edit.specs.declared.EditAnswer.TheVariants.{Done, Before, Refused}
+use Rattle.edit.specs.declared.EditAnswer.TheVariants.{Done, Before}
 use Rattle.accept.specs.Slots.{slot_in, free_slot}
 use Rattle.add.specs.Objects.{offered_good, slot_for, block_for, is_object}
 use Rattle.edit.specs.Edits.{Outcome, Edited, saying, begun}
@@ -49,9 +51,9 @@ unfoldable pub repeat_add : List ℕ → ℕ → List ℕ → List ℕ → ℕ �
 repeat_add m used j o k t =
     -- "for an add: the slot's object [..] equals the offered bytes": "done before" with the slot and the length as it is
     cond (eqb k 1 && is_object m used (slot_in m t) o)
-    (saying m j (Before t used))
+    (saying m j (Ok (Before t used)))
     -- 14: held under another kind, or the object differs
-    (saying m j (Refused 14 0))
+    (saying m j (Err NumberHeld))
 
 unfoldable pub fresh_add : List ℕ → ℕ → List ℕ → ℕ → List ℕ → ℕ → Outcome
 fresh_add m used j e o n =
@@ -59,20 +61,20 @@ fresh_add m used j e o n =
     (cond (leb (new_length m used n o) map_limit && leb (new_length m used n o) (length m))
     (cond (is_full j)
     -- 15: no record is unused
-    (saying m j (Refused 15 0))
+    (saying m j (Err JournalFull))
     -- done: "It takes the first free slot in slot order." "A done edit returns its slot and the new length."
     (record {
-      answer = Done (free_slot m n) (new_length m used n o);
+      answer = Ok (Done (free_slot m n) (new_length m used n o));
       map = added_map m used n o;
       journal = appended j (record_for e 1 (free_slot m n));
     }))
     -- 11: "new length over the buffer or 16,777,216"
-    (saying m j (Refused 11 0)))
+    (saying m j (Err NoRoom)))
     -- 10: "offered object malformed"
-    (saying m j (Refused 10 0))
+    (saying m j (Err BadObject))
 
 unfoldable pub added : List ℕ → ℕ → List ℕ → ℕ → List ℕ → Outcome
 added m used j e o = begun m used j e (λ n k t. repeat_add m used j o k t) (λ n. fresh_add m used j e o n)
 
-abbrev pub Added : List ℕ → ℕ → List ℕ → ℕ → List ℕ → EditAnswer → List ℕ → List ℕ → Type 0
+abbrev pub Added : List ℕ → ℕ → List ℕ → ℕ → List ℕ → Result EditAnswer Refusal → List ℕ → List ℕ → Type 0
 Added m used j e o a m' j' = Edited (added m used j e o) a m' j'

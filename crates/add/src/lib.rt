@@ -4,7 +4,7 @@
 ghost use Rattle.std.specs.Prelude.{◌≡◌, true, List, ℕ, ◌+◌, ◌*◌, ◌≤◌, ◌<◌, length};
 ghost use Rattle.std.proofs.lemmas.List.Edits.{sets};
 ghost use Rattle.numbers.specs.Bytes.{bytes_of};
-ghost use Rattle.records.specs.Sizes.{header_size, index_block_size, slot_size, map_limit, block_cells, link_size};
+ghost use Rattle.records.specs.Sizes.{header_size, index_block_size, index_page, slot_size, map_limit, block_cells, link_size};
 ghost use Rattle.records.specs.Headers.{index_head};
 ghost use Rattle.slots.specs.Slots.{slot_of, slot_bytes};
 ghost use Rattle.chain.specs.Chains.{place};
@@ -12,7 +12,6 @@ ghost use Rattle.chain.specs.Tables.{Empty, Ordered};
 ghost use Rattle.judge.specs.Judging.{version_of};
 ghost use Rattle.accept.specs.Verdicts.{Editable};
 ghost use Rattle.journal.specs.Journals.{in_use};
-ghost use Rattle.edit.specs.declared.EditAnswer.TheVariants.{Refused};
 ghost use Rattle.accept.specs.Slots.{free_slot};
 ghost use Rattle.add.specs.Objects.{pair_limit, offered_good, slot_for, block_for, is_object};
 ghost use Rattle.edit.specs.Edits.{Edited};
@@ -20,14 +19,16 @@ ghost use Rattle.edit.specs.Lent.{Roomy};
 ghost use Rattle.add.specs.Adds.{new_length, added_map, repeat_add, fresh_add, added, Added};
 
 use accept::examine;
-use edit::{EditAnswer, EditStart, begin, refused};
+use edit::{EditAnswer, EditStart, begin};
 use journal::{append, is_full, place_of};
-use numbers::{clear, copy_in, put_u32_at, same, u16_at};
-use records::{Header, JournalRecord, LINK};
+use numbers::{put_u32_at, u16_at};
+use records::{EditKind, Header, JournalRecord, LINK};
+use refusals::Refusal;
 use slots::{IndexBlock, ObjectHeader, Slot, bytes_in, len_of, type_good};
 use windows::least_rectangle;
 
 // Whether an offered object is well formed for a version.
+#[tactic(auto, using(std::proofs::lemmas::Bool::Decides::nat_tests), unfolding(crate::specs::Objects::offered_good))]
 fn offered_good(version: u16, o: &[u8]) -> bool
     ensures { result ≡ offered_good version o.now }
 {
@@ -36,22 +37,15 @@ fn offered_good(version: u16, o: &[u8]) -> bool
     }
     let h = ObjectHeader::of(o);
     let pairs = h.items as usize + h.texts as usize;
-    if o.len() != ObjectHeader::SIZE + ObjectHeader::PAIR * pairs {
-        return false;
-    }
-    if h.items < 1 {
-        return false;
-    }
-    if !type_good(h.kind) {
-        return false;
-    }
-    if h.sym == 0 {
-        return false;
-    }
-    pairs <= pair_limit(version)
+    o.len() == ObjectHeader::SIZE + ObjectHeader::PAIR * pairs
+        && h.items >= 1
+        && type_good(h.kind)
+        && h.sym != 0
+        && pairs <= pair_limit(version)
 }
 
 // How many pairs an offered object may have.
+#[tactic(auto, using(std::proofs::lemmas::Bool::Decides::nat_tests))]
 fn pair_limit(version: u16) -> usize
     ensures { result ≡ pair_limit version }
 {
@@ -82,22 +76,18 @@ fn slot_for(version: u16, o: &[u8], at: u32) -> Slot
     }
 }
 
-// Whether the object of the slot at a place is the offered one. The part of the map where it lies is handed on.
+// Whether the object of the slot at a place is the offered one.
 fn is_object(m: &[u8], used: usize, at: usize, o: &[u8]) -> bool
     requires { (header_size ≤ used) × (used ≤ map_limit) × (used ≤ length m.now) × (at + slot_size ≤ length m.now) }
     ensures { result ≡ is_object m.now used (slot_of m.now at) o.now }
 {
     let t = Slot::at(m, at);
     let start = t.position as usize;
-    let bytes = bytes_in(u16_at(m, Header::VERSION), t.len);
-    if start < Header::SIZE {
+    let end = start + bytes_in(u16_at(m, Header::VERSION), t.len);
+    if start < Header::SIZE || used < end {
         return false;
     }
-    let end = start + bytes;
-    if used < end {
-        return false;
-    }
-    same(&m[start..end], o)
+    &m[start..end] == o
 }
 
 // An add whose number is held.
@@ -109,20 +99,17 @@ fn repeat_add(
     o: &[u8],
     kind: u32,
     slot: u32,
-) -> EditAnswer
+) -> Result<EditAnswer, Refusal>
     requires { Editable m.now used n × Ordered index_head m.now n order.now × (n ≤ length order.now) × (slot < block_cells * n) }
     ensures { (j : List ℕ) → result ≡ (repeat_add m.now used j o.now kind slot).answer }
 {
-    if kind != JournalRecord::ADD {
-        return refused(14);
+    if kind != u32::from(EditKind::Add) || !is_object(m, used, place_of(order, slot as usize), o) {
+        return Err(Refusal::NumberHeld);
     }
-    if !is_object(m, used, place_of(order, slot as usize), o) {
-        return refused(14);
-    }
-    EditAnswer::Before {
+    Ok(EditAnswer::Before {
         slot,
         length: used as u32,
-    }
+    })
 }
 
 // The object at the old end, and its slot at a place: the part of the map that starts at the slot is lent on.
@@ -130,7 +117,7 @@ fn write_in_slot(map: &mut [u8], used: usize, o: &[u8], at: usize, t: Slot)
     requires { (used + length o.now ≤ length map.old) × (at + slot_size ≤ length map.old) }
     ensures { map.new ≡ sets (sets map.old used o.now) at (slot_bytes t) }
 {
-    copy_in(&mut map[used..], o);
+    map[used..used + o.len()].copy_from_slice(o);
     t.put(&mut map[at..]);
 }
 
@@ -139,8 +126,7 @@ fn put_block(part: &mut [u8], t: Slot)
     requires { length part.old ≡ index_block_size }
     ensures { part.new ≡ sets part.old 0 (block_for t) }
 {
-    let size = part.len();
-    clear(part, size);
+    part.fill(0);
     t.put(&mut part[LINK..]);
 }
 
@@ -151,8 +137,8 @@ fn write_in_block(map: &mut [u8], used: usize, o: &[u8], link: usize, t: Slot)
     ensures { map.new
         ≡ sets (sets (sets map.old used o.now) (used + length o.now) (block_for t)) link (bytes_of link_size (used + length o.now)) }
 {
-    copy_in(&mut map[used..], o);
     let block = used + o.len();
+    map[used..block].copy_from_slice(o);
     put_block(&mut map[block..block + IndexBlock::SIZE], t);
     put_u32_at(map, link, block as u32);
 }
@@ -163,9 +149,10 @@ fn last_link(order: &[u32], n: usize) -> usize
     ensures { (m : List ℕ) → Ordered index_head m n order.now → result ≡ place index_head m n }
 {
     if n == 0 {
-        return Header::INDEX;
+        Header::INDEX
+    } else {
+        order[n - 1] as usize
     }
-    order[n - 1] as usize
 }
 
 // The map after an add of a well-formed object to the first free slot, or to a new block.
@@ -188,10 +175,12 @@ fn new_length(used: usize, n: usize, s: usize, o: &[u8]) -> usize
     requires { (used ≤ map_limit) × (length o.now ≤ 4294967296) × (n ≤ map_limit) }
     ensures { (m : List ℕ) → s ≡ free_slot m n → result ≡ new_length m used n o.now }
 {
+    let end = used + o.len();
     if s < IndexBlock::SLOTS * n {
-        return used + o.len();
+        end
+    } else {
+        end + IndexBlock::SIZE
     }
-    used + o.len() + IndexBlock::SIZE
 }
 
 // An add under a new number, in a map whose first free slot is s.
@@ -205,35 +194,29 @@ fn add_new(
     n: usize,
     records: usize,
     s: usize,
-) -> EditAnswer
+) -> Result<EditAnswer, Refusal>
     requires { Editable map.old used n × Ordered index_head map.old n order.now × (n ≤ length order.now)
         × (records ≡ in_use journal.old) × (s ≡ free_slot map.old n) }
     ensures { Edited (fresh_add map.old used journal.old edit o.now n) result map.new journal.new }
 {
     if !offered_good(u16_at(map, Header::VERSION), o) {
-        return refused(10);
+        return Err(Refusal::BadObject);
     }
     let length = new_length(used, n, s, o);
-    if Header::LIMIT < length {
-        return refused(11);
-    }
-    if map.len() < length {
-        return refused(11);
+    if Header::LIMIT < length || map.len() < length {
+        return Err(Refusal::NoRoom);
     }
     let full = is_full(journal, records);
     if full {
-        return refused(15);
+        return Err(Refusal::JournalFull);
     }
     write_added(map, used, order, n, s, o);
-    append(
-        journal,
-        records,
-        JournalRecord::new(edit, JournalRecord::ADD, s as u32),
-    );
-    EditAnswer::Done {
+    let record = JournalRecord::new(edit, u32::from(EditKind::Add), s as u32);
+    append(journal, records, record);
+    Ok(EditAnswer::Done {
         slot: s as u32,
         length: length as u32,
-    }
+    })
 }
 
 // An add, with lent tables, the index blocks' empty before.
@@ -245,14 +228,13 @@ fn add_with(
     o: &[u8],
     index: &mut [u32],
     order: &mut [u32],
-) -> EditAnswer
+) -> Result<EditAnswer, Refusal>
     requires { (used ≤ map_limit → Roomy used index.old order.old) × Empty index.old }
     ensures { Edited (added map.old used journal.old edit o.now) result map.new journal.new }
 {
     let v = examine(map, used, index);
-    let start = begin(map, used, journal, edit, v, order);
+    let start = begin(map, used, journal, edit, v, order)?;
     match start {
-        EditStart::Refused { number, place } => EditAnswer::Refused { number, place },
         EditStart::Held { blocks, kind, slot } => repeat_add(
             map, used, order, blocks, o, kind, slot,
         ),
@@ -264,17 +246,40 @@ fn add_with(
     }
 }
 
+// An add, with tables of so many entries. They stand in this function alone: so the compiler gives each size its own room, and no more than the map needs is
+// taken.
+fn add_with_tables<const T: usize, const B: usize>(
+    map: &mut [u8],
+    used: usize,
+    journal: &mut [u8],
+    edit: u32,
+    o: &[u8],
+) -> Result<EditAnswer, Refusal>
+    requires { (used ≤ map_limit → (used + index_page ≤ T * index_page) × (used < header_size + index_block_size * (B + 1)))
+        × (T ≤ 65536) × (B ≤ 65536) }
+    ensures { Edited (added map.old used journal.old edit o.now) result map.new journal.new }
+{
+    let mut index = [0u32; T];
+    let mut order = [0u32; B];
+    add_with(map, used, journal, edit, o, &mut index, &mut order)
+}
+
 // Add: the object is stored at the old end and takes the first free slot, or one in a new block. Any buffer, any `used`, any journal, any edit number, any
 // bytes as object. The tables are as large as the map needs.
-pub fn add(map: &mut [u8], used: usize, journal: &mut [u8], edit: u32, o: &[u8]) -> EditAnswer
+pub fn add(
+    map: &mut [u8],
+    used: usize,
+    journal: &mut [u8],
+    edit: u32,
+    o: &[u8],
+) -> Result<EditAnswer, Refusal>
     ensures { Added map.old used journal.old edit o.now result map.new journal.new }
 {
     if used <= Header::SMALL {
-        let mut index = [0u32; IndexBlock::SMALL_TABLE];
-        let mut order = [0u32; IndexBlock::SMALL_MOST];
-        return add_with(map, used, journal, edit, o, &mut index, &mut order);
+        add_with_tables::<{ IndexBlock::SMALL_TABLE }, { IndexBlock::SMALL_MOST }>(
+            map, used, journal, edit, o,
+        )
+    } else {
+        add_with_tables::<{ IndexBlock::TABLE }, { IndexBlock::MOST }>(map, used, journal, edit, o)
     }
-    let mut index = [0u32; IndexBlock::TABLE];
-    let mut order = [0u32; IndexBlock::MOST];
-    add_with(map, used, journal, edit, o, &mut index, &mut order)
 }

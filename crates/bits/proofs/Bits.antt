@@ -6,9 +6,11 @@
 --     bits-word         and standing highest in a word, below what a word can hold
 --     bits-same         tests that agree, each from its own number on, have the same bits and as many that pass
 --     ones-bits         the bits that are 1 are the numbers that pass
---     ones_odd, ones-even, ones-some, ones-zero     the lowest bit taken off; some bit is 1 where the number is not 0, and none where it is
+--     ones_odd, ones-even, ones-zero     the lowest bit taken off; no bit is 1 where the number is 0
+--     ones-lowest       the lowest bit that is 1, and the number without it
 --     sel-from          those below s + n that pass: those below s, and those from s on
 --     bits-moved, sel-moved     a test of the first n numbers that agrees with another from s on
+--     ones-front        the first words of a list
 --     ones-words        words that have the bits of a test, so many each, have the numbers that pass it
 --     ones-count, bits-count     how many bits are 1, which is what the machine's count of ones gives; of a test's bits, as many as pass it
 --     word-high, word-most, ones-full     the words of the code: the highest bit, what they can hold, and one all of whose bits are 1
@@ -21,8 +23,10 @@ use native.Mathlib.Nat.{add-zero, add-suc, zero-add, mul-zero, mul-suc}
 use native.Mathlib.Decide.{ℕ_discrete}
 use native.Mathlib.Numerals.{add-one}
 use native.Mathlib.Omega.{arith}
-use lib.Count.{ones as count, ones_step, ones-le}
-use lib.ListN.{length, get_or, length-append}
+use lib.Bits.{bit_and, and_step, and_self}
+use lib.Count.{ones as count, ones_step, ones-le, count_trailing_zeros}
+use lib.ListN.{length, get_or, take, length-append}
+use lib.Seq.{get_or-take, length-take-le}
 use borrow.Author.Tests.{eq-eqb, ne_eqb}
 use Rattle.numbers.specs.Below.{sel}
 use Rattle.numbers.proofs.Below.{sel_yes, sel_no}
@@ -33,10 +37,6 @@ bit-most true = omega arith
 bit-most false = omega arith
 
 -- ---- doubling
-
-pub twice : (k x : ℕ) → double (suc k) x ≡ 2 * double k x
-unfolding double
-twice k x = refl
 
 pub half : (k x : ℕ) → double (suc k) x / 2 ≡ double k x
 unfolding double
@@ -231,14 +231,40 @@ module _ (w : ℕ) where
         | no e ↦ omega (arith, ones-mono ws i n (omega arith), ap length (rw (add-one n) at (ones-more ws n)), length-append (ones_in w ws n) (ones w (get_or ws n 0) (w * n)))
       ]
 
--- some bit is 1 where the number is not 0
-pub ones-some : (n x s : ℕ) → x < double n 1 → (x ≡ 0 → ⊥) → 0 < length (ones n x s)
-unfolding double
-ones-some zero x s l h = absurd (h (omega arith))
-ones-some (suc n) x s l h =
+-- words that agree
+ones-same : (w : ℕ) (us vs : List ℕ) (k : ℕ) → ((i : ℕ) → i < k → get_or us i 0 ≡ get_or vs i 0) → ones_in w us k ≡ ones_in w vs k
+unfolding ones_in
+ones-same w us vs zero h = refl
+ones-same w us vs (suc k) h = rw (ones-same w us vs k (λ i l. h i (omega arith)), h k (omega arith))
+
+-- of a slice's first words those of the slice
+pub ones-front : (w : ℕ) (ws : List ℕ) (k : ℕ) → k ≤ length ws → ones_in w (take k ws) (length (take k ws)) ≡ ones_in w ws k
+ones-front w ws k h = rw (length-take-le k ws h) (ones-same w (take k ws) ws k (λ i l. get_or-take k ws i 0 l))
+
+-- the lowest bit that is 1 is listed first, and without it the others are left
+pub ones-lowest : (n x s : ℕ) → x < double n 1 → (x ≡ 0 → ⊥) → ones n x s ≡ (s + count_trailing_zeros n x) ∷ ones n (bit_and x (x - 1)) s
+unfolding double count_trailing_zeros
+ones-lowest zero x s l h = absurd (h (omega arith))
+ones-lowest (suc n) x s l h =
     ⊎_elim
-    (λ e. rw (ones-even x n s e) (ones-some n (x / 2) (s + 1) (omega arith) (λ z. h (omega arith))))
-    (λ e. rw (ones_odd x n s e) (omega arith))
+    (λ e.
+    let y = x / 2 in
+    let q : (x - 1) / 2 ≡ y - 1 = omega (arith, h) in
+    let z : bit_and x (x - 1) ≡ bit_and y (y - 1) * 2 = omega (arith, rw q at (and_step x (x - 1)), e) in
+    let m : bit_and x (x - 1) % 2 ≡ 0 = omega (arith, z) in
+    let d : bit_and x (x - 1) / 2 ≡ bit_and y (y - 1) = omega (arith, z) in
+    let t : s + suc (count_trailing_zeros n y) ≡ s + 1 + count_trailing_zeros n y = omega arith in
+    let low : y < double n 1 = omega (arith, l) in
+    let some : y ≡ 0 → ⊥ = λ g. h (omega (arith, g, e)) in
+    rw (ones-even x n s e, ones-even (bit_and x (x - 1)) n s m, d, e, t) (ones-lowest n y (s + 1) low some))
+    (λ e.
+    let y = x / 2 in
+    let q : (x - 1) / 2 ≡ y = omega (arith, e) in
+    let r : (x - 1) % 2 ≡ 0 = omega (arith, e) in
+    let z : bit_and x (x - 1) ≡ y * 2 = omega (arith, rw (q, and_self y) at (and_step x (x - 1)), r) in
+    let m : bit_and x (x - 1) % 2 ≡ 0 = omega (arith, z) in
+    let d : bit_and x (x - 1) / 2 ≡ y = omega (arith, z) in
+    rw (ones_odd x n s e, ones-even (bit_and x (x - 1)) n s m, d, e, add-zero s))
     (parity x)
 
 -- how many are 1, as the machine counts them

@@ -7,7 +7,7 @@ use native.Mathlib.Nat.{le_of_suc-le-suc, not-suc-le-zero}
 use native.Mathlib.Omega.{arith}
 use lib.ListN.{length, get_or}
 use Rattle.numbers.specs.Bytes.{u32_at}
-use Rattle.chain.specs.declared.Walk.TheVariants.{Blocks}
+use Rattle.std.specs.Prelude.{Ok}
 use Rattle.chain.specs.Chains.{Rule, place, block, walked, Links, end, link, blocks_of}
 use Rattle.chain.proofs.Chains.{Pass, walked-is, walked-pass, walked_end}
 
@@ -45,7 +45,7 @@ links-of h m (suc n) some none =
     link refl (λ z. some 0 (omega arith) (block-zero h m ∙ z))
     (links-of (u32_at m h) m n (λ k l z. some (suc k) (omega arith) (block-behind h m k ∙ z)) (sym (block-behind h m n) ∙ none))
 
-pub walked-links : (r : Rule) (m : List ℕ) (used : ℕ) {n : ℕ} → walked r m used ≡ Blocks n → Links m r.head (blocks_of r.head m n)
+pub walked-links : (r : Rule) (m : List ℕ) (used : ℕ) {n : ℕ} → walked r m used ≡ Ok n → Links m r.head (blocks_of r.head m n)
 walked-links r m used {n} e =
     links-of r.head m n (λ k l z. omega (arith, ((walked-pass r m used e).lies k l).low)) (walked_end r m used e)
 
@@ -61,7 +61,7 @@ pub links_end : {m : List ℕ} {h : ℕ} {bs : List ℕ} → Links m h bs → bl
 links_end {m} {h} (end e) = block-zero h m ∙ e
 links_end {m} {h} (link {bs} e ne ls) = block-behind h m (length bs) ∙ ap (λ (x : ℕ). block x m (length bs)) e ∙ links_end ls
 
-pub links-walked : (r : Rule) (m : List ℕ) (used : ℕ) {bs : List ℕ} → 0 < r.size → Links m r.head bs → Pass r m used (length bs) → walked r m used ≡ Blocks (length bs)
+pub links-walked : (r : Rule) (m : List ℕ) (used : ℕ) {bs : List ℕ} → 0 < r.size → Links m r.head bs → Pass r m used (length bs) → walked r m used ≡ Ok (length bs)
 links-walked r m used z ls h = walked-is r m used z h (links_end ls)
 
 -- there is one list at most

@@ -18,8 +18,8 @@ use Rattle.numbers.proofs.Below.{any_at, any_false, First, first-is, first-law, 
 use Rattle.numbers.proofs.Coordinates.{lt-or-ge}
 use Rattle.numbers.proofs.Ranges.{share-comm, within-true, within-is}
 use Rattle.records.specs.Sizes.{header_size}
-use Rattle.chain.specs.declared.Walk.{Walk}
-use Rattle.chain.specs.declared.Walk.TheVariants.{Blocks, Fault}
+use Rattle.std.specs.Prelude.{Result, Ok, Err}
+use Rattle.chain.specs.declared.LinkFault.{LinkFault}
 use Rattle.chain.specs.Chains.{Rule, place, block, meets_block, inside, bad_link, stops, taken, walked}
 use Rattle.chain.proofs.Pigeon.{blocks-fit}
 
@@ -150,45 +150,47 @@ module _ (r : Rule) (m : List ℕ) (used : ℕ) where
 
   -- ---- what the walk answers
 
-  pub walked-blocks : {n : ℕ} → taken r m used ≡ n → block r.head m n ≡ 0 → walked r m used ≡ Blocks n
+  pub walked-blocks : {n : ℕ} → taken r m used ≡ n → block r.head m n ≡ 0 → walked r m used ≡ Ok n
   unfolding walked
   walked-blocks {n} t e = rw (t, eq-eqb (block r.head m n) 0 e)
 
-  pub walked-fault : {n : ℕ} → taken r m used ≡ n → (block r.head m n ≡ 0 → ⊥) → walked r m used ≡ Fault (place r.head m n) n
+  pub walked-fault : {n : ℕ} → taken r m used ≡ n → (block r.head m n ≡ 0 → ⊥) → walked r m used ≡ Err (record { place = place r.head m n; taken = n })
   unfolding walked
   walked-fault {n} t ne = rw (t, ne_eqb (block r.head m n) 0 ne)
 
   -- the first n links pass, and the next one is 0: so n blocks are answered
-  pub walked-is : {n : ℕ} → 0 < r.size → Pass r m used n → block r.head m n ≡ 0 → walked r m used ≡ Blocks n
+  pub walked-is : {n : ℕ} → 0 < r.size → Pass r m used n → block r.head m n ≡ 0 → walked r m used ≡ Ok n
   walked-is {n} z h e = walked-blocks (taken_is z h (stops-zero n e)) e
 
   -- and back: what an answer tells, by whether the walk stops at a link of 0
-  answer-case : (A : Walk → Type 0) → (block r.head m (taken r m used) ≡ 0 → A (Blocks (taken r m used))) → ((block r.head m (taken r m used) ≡ 0 → ⊥) → A (Fault (place r.head m (taken r m used)) (taken r m used))) → A (walked r m used)
+  answer-case : (A : Result ℕ LinkFault → Type 0) → (block r.head m (taken r m used) ≡ 0 → A (Ok (taken r m used))) → ((block r.head m (taken r m used) ≡ 0 → ⊥) → A (Err (record { place = place r.head m (taken r m used); taken = taken r m used }))) → A (walked r m used)
   unfolding walked
   answer-case A f g = go (eqb (block r.head m (taken r m used)) 0) refl
     where
-      go : (b : Bool) → eqb (block r.head m (taken r m used)) 0 ≡ b → A (cond b (Blocks (taken r m used)) (Fault (place r.head m (taken r m used)) (taken r m used)))
+      go : (b : Bool) → eqb (block r.head m (taken r m used)) 0 ≡ b → A (cond b (Ok (taken r m used)) (Err (record { place = place r.head m (taken r m used); taken = taken r m used })))
       go true e = f (eqb-true (block r.head m (taken r m used)) 0 e)
       go false e = g (eqb-false (block r.head m (taken r m used)) 0 e)
 
-  pub walked-tells : {n : ℕ} → walked r m used ≡ Blocks n → (taken r m used ≡ n) × (block r.head m n ≡ 0)
+  pub walked-tells : {n : ℕ} → walked r m used ≡ Ok n → (taken r m used ≡ n) × (block r.head m n ≡ 0)
   walked-tells {n} =
-      answer-case (λ (w : Walk). w ≡ Blocks n → (taken r m used ≡ n) × (block r.head m n ≡ 0))
+      answer-case (λ (w : Result ℕ LinkFault). w ≡ Ok n → (taken r m used ≡ n) × (block r.head m n ≡ 0))
       (λ z q. let t : taken r m used ≡ n = cc in (t, rw t at z))
       (λ z q. let o : ◌≡◌ {A = ℕ} 0 1 = cc in let no_way : ⊥ = omega arith in absurd no_way)
 
-  pub walked-taken : {n : ℕ} → walked r m used ≡ Blocks n → taken r m used ≡ n
+  pub walked-taken : {n : ℕ} → walked r m used ≡ Ok n → taken r m used ≡ n
   walked-taken e = (walked-tells e).0
 
-  pub walked_end : {n : ℕ} → walked r m used ≡ Blocks n → block r.head m n ≡ 0
+  pub walked_end : {n : ℕ} → walked r m used ≡ Ok n → block r.head m n ≡ 0
   walked_end e = (walked-tells e).1
 
-  pub walked-pass : {n : ℕ} → walked r m used ≡ Blocks n → Pass r m used n
+  pub walked-pass : {n : ℕ} → walked r m used ≡ Ok n → Pass r m used n
   walked-pass e = rw (walked-taken e) at taken_pass
 
   -- the link at fault, its place and the number of blocks before it
-  pub fault-tells : {p k : ℕ} → walked r m used ≡ Fault p k → (taken r m used ≡ k) × (place r.head m k ≡ p) × (block r.head m k ≡ 0 → ⊥)
+  pub fault-tells : {p k : ℕ} → walked r m used ≡ Err (record { place = p; taken = k }) → (taken r m used ≡ k) × (place r.head m k ≡ p) × (block r.head m k ≡ 0 → ⊥)
   fault-tells {p} {k} =
-      answer-case (λ (w : Walk). w ≡ Fault p k → (taken r m used ≡ k) × (place r.head m k ≡ p) × (block r.head m k ≡ 0 → ⊥))
+      answer-case (λ (w : Result ℕ LinkFault). w ≡ Err (record { place = p; taken = k }) → (taken r m used ≡ k) × (place r.head m k ≡ p) × (block r.head m k ≡ 0 → ⊥))
       (λ z q. let o : ◌≡◌ {A = ℕ} 0 1 = cc in let no_way : ⊥ = omega arith in absurd no_way)
-      (λ z q. let t : taken r m used ≡ k = cc in let a : place r.head m (taken r m used) ≡ p = cc in (t, rw t at a, rw t at z))
+      (λ z q. let e : ◌≡◌ {A = LinkFault} (record { place = place r.head m (taken r m used); taken = taken r m used }) (record { place = p; taken = k }) = cc in
+      let t : taken r m used ≡ k = ap (λ (f : LinkFault). f.taken) e in
+      (t, rw t at (ap (λ (f : LinkFault). f.place) e), rw t at z))

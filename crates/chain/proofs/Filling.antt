@@ -3,14 +3,15 @@
 use Prim.Native.Nat.{ℕ, zero, suc, ◌+◌, ◌-◌, ◌*◌, ◌/◌, ◌≤◌, ◌<◌}
 use mathlib.Core.Bool.{Bool, true, false}
 use mathlib.Core.Path.{◌≡◌, refl, sym, ap, ◌∙◌}
-use mathlib.Core.List.{List}
+use mathlib.Core.List.{List, ◌++◌}
 use mathlib.Core.Logic.{⊎_elim}
 use borrow.Author.Tests.{ltb-true, ltb-false, eq-eqb, ne_eqb}
 use native.Mathlib.Numerals.{add-one}
 use native.Mathlib.Decide.{ℕ_discrete}
 use native.Mathlib.Omega.{arith}
 use lib.Dec.{ltb}
-use lib.ListN.{get_or, length, set}
+use Rattle.std.proofs.lemmas.List.{get_or-take, get_or-append_right, get_or-drop}
+use lib.ListN.{get_or, get_or-append, length, set, take, drop}
 use lib.Seq.{get_or-set_same, get_or-set_other}
 use borrow.Author.Count.{below_more}
 use Rattle.numbers.proofs.Below.{below-cases}
@@ -111,6 +112,19 @@ module _ {n b : ℕ} {t t' : List ℕ} (c : Carried n b t t') where
             (get_or-set_same t' b last 0 fits ∙ l);
         above = λ d g. get_or-set_other t' b d last 0 (omega arith) ∙ c.above d (omega arith);
       }
+
+-- the front of a table alone is filled
+last-below-front : (k : ℕ) (t : List ℕ) (b : ℕ) → b ≤ k → last_below (take k t) b ≡ last_below t b
+unfolding last_below
+last-below-front k t zero l = refl
+last-below-front k t (suc b) l = rw (get_or-take k t b 0 (omega arith), last-below-front k t b (omega arith))
+
+pub carried-front : {n k : ℕ} {t t' : List ℕ} → length t' ≡ k → Carried n k (take k t) t' → Carried n k t (t' ++ drop k t)
+carried-front {n} {k} {t} {t'} e c =
+    record {
+      below = λ b l. get_or-append t' (drop k t) 0 b (omega arith) ∙ c.below b l ∙ ap (end_of n) (last-below-front k t (b + 1) (omega arith));
+      above = λ b l. get_or-append_right t' (drop k t) k b 0 e l ∙ get_or-drop k t (b - k) 0 ∙ ap (λ (i : ℕ). get_or t i 0) (omega arith);
+    }
 
 -- ---- filling, where no block stands past the entries that are filled
 

@@ -19,7 +19,7 @@ use Rattle.numbers.proofs.Bytes.{le_at-sets-low, le_at-sets-high}
 use Rattle.numbers.proofs.Below.{any_none}
 use Rattle.numbers.proofs.Ranges.{share-before}
 use Rattle.records.specs.Sizes.{header_size}
-use Rattle.chain.specs.declared.Walk.TheVariants.{Blocks}
+use Rattle.std.specs.Prelude.{Ok}
 use Rattle.chain.specs.Chains.{Rule, place, block, meets_block, walked}
 use Rattle.chain.specs.Cells.{cell_at}
 use Rattle.chain.proofs.Chains.{Passed, Pass, pass-more, block_more, walked-is}
@@ -101,7 +101,7 @@ module _ {r r' : Rule} {m m' : List ℕ} {used used' n : ℕ} (e : Edited r r' m
             free = rw (b, e.head, e.size, meets-kept (less e.kept k (omega arith)) r.size) w.free;
           }
 
-  pub walked-kept : 0 < r.size → u32_at m' (place r.head m n) ≡ 0 → walked r' m' used' ≡ Blocks n
+  pub walked-kept : 0 < r.size → u32_at m' (place r.head m n) ≡ 0 → walked r' m' used' ≡ Ok n
   walked-kept z l = walked-is r' m' used' (rw e.size z) pass_kept (rw e.head (block_last e.kept l))
 
 -- ---- one block more
@@ -140,6 +140,6 @@ module _ {r r' : Rule} {m m' : List ℕ} {used used' n q : ℕ} (a : Added r r' 
         free = rw b new-free;
       })
 
-  pub walked-added : 0 < r.size → walked r' m' used' ≡ Blocks (n + 1)
+  pub walked-added : 0 < r.size → walked r' m' used' ≡ Ok (n + 1)
   walked-added z =
       walked-is r' m' used' (rw a.edited.size z) added-pass (block_more r'.head m' n ∙ ap (u32_at m') added-block ∙ a.end)

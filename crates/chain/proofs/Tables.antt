@@ -3,10 +3,15 @@
 use Prim.Native.Nat.{ℕ, zero, suc, ◌+◌, ◌-◌, ◌/◌, ◌≤◌, ◌<◌}
 use mathlib.Core.Bool.{Bool, true, false, ◌||◌}
 use mathlib.Core.Path.{◌≡◌, refl, sym, ap, ◌∙◌, fun_ext}
+use mathlib.Core.Logic.{⊎_elim}
 use mathlib.Core.List.{List, [], ◌∷◌}
 use borrow.Author.Count.{below_none, below_more}
 use borrow.Author.Tests.{ltb-true, ltb-false, eq-eqb, ne_eqb}
 use native.Mathlib.Nat.{lt_of_not-le}
+use Rattle.std.specs.Bool.{MatchBool}
+use Rattle.std.specs.List.{range_with_len, AllWithin, HoldsAt}
+use Rattle.std.proofs.lemmas.List.FromFn.{length-range_with_len, get_or-range_with_len}
+use Rattle.numbers.proofs.Coordinates.{lt-or-ge}
 use native.Mathlib.Decide.{ℕ_discrete}
 use native.Mathlib.Omega.{arith}
 use lib.Dec.{ltb}
@@ -71,6 +76,19 @@ module _ (n : ℕ) (t : List ℕ) (p len : ℕ) where
   scan-hit b e =
       any_at (entry_meets n t p len) (length t)
       (lt_of_not-le (λ k. never (sym e ∙ entry-empty b (get_or-eq_default t 0 k)))) e
+
+  -- the same by the answer of a scan of n pages from a on
+  pub scan-is : {w : ℕ} (a n' : ℕ) (r : Bool) → Placed w t → 0 < w → 0 < len → (p + len - 1) / w + 1 < a + n' → ((k : ℕ) → k < a → entry_meets n t p len k ≡ false) → MatchBool r ((k : ℕ) × (k < length (range_with_len a n')) × HoldsAt (λ b. entry_meets n t p len b ≡ true) (range_with_len a n') k) (AllWithin (λ b. entry_meets n t p len b ≡ false) (range_with_len a n') 0 (length (range_with_len a n'))) → r ≡ table_meets n t p len
+  scan-is a n' true h z y l low (k, g, e) = sym (scan-hit (get_or (range_with_len a n') k 0) (e 0))
+  scan-is a n' false h z y l low e =
+      sym
+      (scan-end h z y (a + n') l
+      (λ k g.
+      ⊎_elim (low k)
+      (λ f.
+      let i : a + (k - a) ≡ k = omega arith in
+      rw (get_or-range_with_len a n' (k - a) 0 (omega arith), i) at (e (k - a) 0 (omega arith) (omega (arith, length-range_with_len a n'))))
+      (lt-or-ge k a)))
 
 -- ---- an empty table
 
@@ -204,25 +222,25 @@ module _ (k : Kind) (other : List ℕ) where
   rule-from f e = ap (λ (g : ℕ → Bool). record { head = k.head; size = k.size; taboo = g }) (fun_ext e)
 
   -- where the other table is empty, the two ranges are left
-  pub rule-ranges : Empty other → kind_rule k other ≡ record { head = k.head; size = k.size; taboo = λ p. share k.first k.first_size p k.size || share k.second k.second_size p k.size }
+  pub rule-ranges : Empty other → kind_rule k other ≡ record { head = k.head; size = k.size; taboo = λ p. share k.first.at k.first.size p k.size || share k.second.at k.second.size p k.size }
   unfolding keeps_off
   rule-ranges e =
-      rule-from (λ p. share k.first k.first_size p k.size || share k.second k.second_size p k.size)
-      (λ p. rw (empty-meets k.other_size (starts_of k.other_size other) (starts-empty k.other_size other e) p k.size, or-false (share k.second k.second_size p k.size)))
+      rule-from (λ p. share k.first.at k.first.size p k.size || share k.second.at k.second.size p k.size)
+      (λ p. rw (empty-meets k.other_size (starts_of k.other_size other) (starts-empty k.other_size other e) p k.size, or-false (share k.second.at k.second.size p k.size)))
 
   -- where the two ranges are empty, the other table is left
   no-range : (a p : ℕ) {s : ℕ} → s ≡ 0 → share a s p k.size ≡ false
   no-range a p e = rw (e, share-comm a 0 p k.size) (share-empty p k.size a)
 
-  pub rule-other : k.first_size ≡ 0 → k.second_size ≡ 0 → kind_rule k other ≡ record { head = k.head; size = k.size; taboo = λ p. ends_meet k.other_size other p k.size }
+  pub rule-other : k.first.size ≡ 0 → k.second.size ≡ 0 → kind_rule k other ≡ record { head = k.head; size = k.size; taboo = λ p. ends_meet k.other_size other p k.size }
   unfolding keeps_off
   rule-other e f =
       rule-from (λ p. ends_meet k.other_size other p k.size)
-      (λ p. rw (no-range k.first p e, no-range k.second p f))
+      (λ p. rw (no-range k.first.at p e, no-range k.second.at p f))
 
   -- and where that is empty too, nothing
-  pub rule-none : k.first_size ≡ 0 → k.second_size ≡ 0 → Empty other → kind_rule k other ≡ record { head = k.head; size = k.size; taboo = λ p. false }
+  pub rule-none : k.first.size ≡ 0 → k.second.size ≡ 0 → Empty other → kind_rule k other ≡ record { head = k.head; size = k.size; taboo = λ p. false }
   unfolding keeps_off
   rule-none e f g =
       rule-from (λ p. false)
-      (λ p. rw (no-range k.first p e, no-range k.second p f) (empty-meets k.other_size (starts_of k.other_size other) (starts-empty k.other_size other g) p k.size))
+      (λ p. rw (no-range k.first.at p e, no-range k.second.at p f) (empty-meets k.other_size (starts_of k.other_size other) (starts-empty k.other_size other g) p k.size))

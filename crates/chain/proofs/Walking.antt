@@ -10,7 +10,7 @@ use lib.ListN.{set, length}
 use Rattle.numbers.specs.Bytes.{u32_at}
 use Rattle.numbers.proofs.Ranges.{within-is, within_low, within-high}
 use Rattle.records.specs.Sizes.{header_size}
-use Rattle.chain.specs.declared.Walk.TheVariants.{Blocks, Fault}
+use Rattle.std.specs.Prelude.{Ok, Err}
 use Rattle.chain.specs.Chains.{Rule, place, block, inside, meets_block, bad_link, taken, walked}
 use Rattle.chain.specs.Tables.{Placed, Table, Empty, table_meets, good_block}
 use Rattle.chain.proofs.Pigeon.{page-in}
@@ -92,17 +92,17 @@ module _ {r : Rule} {page : ℕ} {m : List ℕ} {used : ℕ} {t : List ℕ} {n a
       }
 
   -- the two ends, with the number of blocks
-  pub walk_end : 4 ≤ r.size → p ≡ 0 → (Blocks n ≡ walked r m used) × Placed page t × Table r.head page m (taken r m used) t
+  pub walk_end : 4 ≤ r.size → p ≡ 0 → (Ok n ≡ walked r m used) × Placed page t × Table r.head page m (taken r m used) t
   walk_end four none =
       let b : block r.head m n ≡ 0 = sym is ∙ none in
       let k = taken_is r m used (omega arith) w.pass (stops-zero r m used n b) in
       (sym (walked-blocks r m used k b), w.placed, rw k w.table)
 
-  pub walk-fault : 4 ≤ r.size → (p ≡ 0 → ⊥) → {g : Bool} → g ≡ good_block r t used p → g ≡ false → (Fault at n ≡ walked r m used) × Placed page t × Table r.head page m (taken r m used) t
+  pub walk-fault : 4 ≤ r.size → (p ≡ 0 → ⊥) → {g : Bool} → g ≡ good_block r t used p → g ≡ false → (Err (record { place = at; taken = n }) ≡ walked r m used) × Placed page t × Table r.head page m (taken r m used) t
   walk-fault four some f g =
       let k = taken_is r m used (omega arith) w.pass (stops-bad r m used n (bad-is ∙ ap not (sym f ∙ g))) in
-      (sym (walked-fault r m used k (λ o. some (is ∙ o)) ∙ ap (λ (x : ℕ). Fault x n) (sym w.link)), w.placed, rw k w.table)
+      (sym (walked-fault r m used k (λ o. some (is ∙ o)) ∙ ap (λ (x : ℕ). Err (record { place = x; taken = n })) (sym w.link)), w.placed, rw k w.table)
 
 -- the table that a walk leaves, where it answers a number of blocks
-pub table_of : (r : Rule) (m : List ℕ) (used : ℕ) {w n : ℕ} {t : List ℕ} → walked r m used ≡ Blocks n → Table r.head w m (taken r m used) t → Table r.head w m n t
+pub table_of : (r : Rule) (m : List ℕ) (used : ℕ) {w n : ℕ} {t : List ℕ} → walked r m used ≡ Ok n → Table r.head w m (taken r m used) t → Table r.head w m n t
 table_of r m used e h = rw (walked-taken r m used e) at h

@@ -9,17 +9,16 @@
 --     bad_link r m used k    whether link k is at fault: its block is not inside the map, or breaks the kind's own rule, or shares a byte with an earlier block
 --     stops r m used k      whether a walk stops at link k: it is 0, or it is at fault
 --     taken r m used        how many blocks a walk takes before it stops (it always stops before `used`: proved)
---     walked r m used       what a walk answers: the number of blocks where it stops at a link of 0; else the place of the link at fault
+--     walked r m used       what a walk answers: the number of blocks where it stops at a link of 0; else the place of the link at fault, and how many are before it
 -- The same chain as a list, for a reader; no contract cites it:
 --     Links m at bs         the blocks along the links, from the one at `at` to a link of 0, are bs
 --     blocks_of h m n        the first n blocks in their order
-use Rattle.std.specs.Prelude.{ℕ, zero, suc, Bool, not, cond, ◌||◌, List, [], ◌∷◌, ◌≡◌, eqb}
+use Rattle.std.specs.Prelude.{ℕ, zero, suc, Bool, not, cond, ◌||◌, List, [], ◌∷◌, ◌≡◌, eqb, Result, Ok, Err}
 use Rattle.numbers.specs.Bytes.{u32_at}
 use Rattle.numbers.specs.Ranges.{share, within}
 use Rattle.numbers.specs.Below.{any, first}
 use Rattle.records.specs.Sizes.{header_size}
-use Rattle.chain.specs.declared.Walk.{Walk}
-use Rattle.chain.specs.declared.Walk.TheVariants.{Blocks, Fault}
+use Rattle.chain.specs.declared.LinkFault.{LinkFault}
 
 pub record Rule : Type 0 where
   pub head : ℕ
@@ -50,11 +49,11 @@ stops r m used k = eqb (block r.head m k) 0 || bad_link r m used k
 unfoldable pub taken : Rule → List ℕ → ℕ → ℕ
 taken r m used = first (stops r m used) used
 
-unfoldable pub walked : Rule → List ℕ → ℕ → Walk
+unfoldable pub walked : Rule → List ℕ → ℕ → Result ℕ LinkFault
 walked r m used =
     cond (eqb (block r.head m (taken r m used)) 0)
-    (Blocks (taken r m used))
-    (Fault (place r.head m (taken r m used)) (taken r m used))
+    (Ok (taken r m used))
+    (Err (record { place = place r.head m (taken r m used); taken = taken r m used }))
 
 pub data Links (m : List ℕ) : ℕ → List ℕ → Type 0 where
   end : {at : ℕ} → u32_at m at ≡ 0 → Links m at []

@@ -16,7 +16,7 @@
 --     entry_meets n t p len b    whether entry b, a block of n bytes, shares a byte with the len bytes from p on
 --     table_meets n t p len      whether some entry does
 --     ends_meet n t p len        the same, where t has the ends
---     keeps_off k other p        the test of a kind of chain in the code: whether a block at p shares a byte with its two ranges or a block of another table
+--     keeps_off k other p        the test of a kind of chain in the code: whether a block at p shares a byte with its two parts of the map or a block of another table
 --     kind_rule k other          that kind as a rule
 --     good_block r t used p      whether p can be a block of the map, by the table of the blocks before it
 --     Bounds k end other        what the test of a kind needs of a block that ends at `end`: numbers small enough, and another table that reaches as far
@@ -77,7 +77,7 @@ ends_meet n t = table_meets n (starts_of n t)
 
 unfoldable pub keeps_off : Kind → List ℕ → ℕ → Bool
 keeps_off k other p =
-    share k.first k.first_size p k.size || (share k.second k.second_size p k.size || ends_meet k.other_size other p k.size)
+    share k.first.at k.first.size p k.size || (share k.second.at k.second.size p k.size || ends_meet k.other_size other p k.size)
 
 abbrev pub kind_rule : Kind → List ℕ → Rule
 kind_rule k other = record { head = k.head; size = k.size; taboo = keeps_off k other }
@@ -89,10 +89,6 @@ pub record Bounds (k : Kind) (end : ℕ) (other : List ℕ) : Type 0 where
   pub most : end ≤ map_limit
   pub block-least : link_size ≤ k.size
   pub block-most : k.size ≤ 65536
-  pub first_fits : k.first < 4294967296
-  pub first-size-fits : k.first_size < 4294967296
-  pub second_fits : k.second < 4294967296
-  pub second-size-fits : k.second_size < 4294967296
   pub other-least : 0 < k.other_size
   pub other-most : k.other_size ≤ 65536
   pub other-page : 0 < k.other_page

@@ -5,48 +5,39 @@ ghost use Rattle.std.specs.Prelude.{◌≡◌, ℕ, ◌+◌, ◌-◌, ◌*◌, �
 ghost use Rattle.chain.specs.Chains.{block, walked, taken};
 ghost use Rattle.chain.specs.Tables.{Empty, Placed, Table, Carried, Filled, entry_meets, table_meets, ends_meet, keeps_off, kind_rule, good_block, Bounds, Ready, Ordered};
 ghost use Rattle.records.specs.Sizes.{link_size, map_limit};
+ghost use Rattle.numbers.specs.Ranges.{share};
 
 use numbers::u32_at;
-use records::Header;
+use records::{Header, Part};
 
-// What a walk answers: the number of blocks; or the place of the first link at fault, and the number of blocks before it.
-#[derive(Clone, Copy)]
-pub enum Walk {
-    Blocks(usize),
-    Fault { place: usize, taken: usize },
+// Why a walk stops before the chain ends: the place of the first link at fault, and the number of blocks before it.
+#[derive(Clone, Copy, Debug, PartialEq, Eq)]
+pub struct LinkFault {
+    pub place: usize,
+    pub taken: usize,
 }
 
-// A kind of chain: where its first link stands, the bytes of a block, and of a page of its table; and what its blocks keep off: two ranges, and the blocks of
-// another table, filled, of `other_size` bytes each.
+// A kind of chain: where its first link stands, the bytes of a block, and of a page of its table; and what its blocks keep off: two parts of the map, and the
+// blocks of another table, filled, of `other_size` bytes each.
 #[derive(Clone, Copy)]
 pub struct Kind {
     pub head: usize,
     pub size: usize,
     pub page: usize,
-    pub first: usize,
-    pub first_size: usize,
-    pub second: usize,
-    pub second_size: usize,
+    pub first: Part,
+    pub second: Part,
     pub other_size: usize,
     pub other_page: usize,
 }
 
-fn wide(x: u32) -> usize
-    ensures { (result ≡ x) × (result < 4294967296) }
-{
-    x as usize
-}
-
 // Whether entry b shares a byte with the range.
+#[tactic(auto, unfolding(crate::specs::Tables::entry_meets))]
 fn entry_meets(t: &[u32], size: usize, b: usize, start: usize, len: usize) -> bool
     requires { (b < length t.now) × (size ≤ 65536) × (start + len ≤ map_limit) }
     ensures { result ≡ entry_meets size t.now start len b }
 {
-    let e = wide(t[b]);
-    if e == 0 {
-        return false;
-    }
-    numbers::ranges_share(e, size, start, len)
+    let e = t[b] as usize;
+    e != 0 && numbers::ranges_share(e, size, start, len)
 }
 
 // Whether some block taken so far shares a byte with the range: only the pages in which such a block can start are looked at.
@@ -55,17 +46,12 @@ fn meets_taken(t: &[u32], page: usize, size: usize, start: usize, len: usize) ->
     ensures { result ≡ table_meets size t.now start len }
 {
     let last = (start + len - 1) / page + 1;
-    let mut b = 0;
-    if size <= start {
-        b = (start - size) / page + 1;
-    }
-    while b <= last {
-        if entry_meets(t, size, b, start, len) {
-            return true;
-        }
-        b += 1;
-    }
-    false
+    let first = if size <= start {
+        (start - size) / page + 1
+    } else {
+        0
+    };
+    (first..last + 1).any(|b| entry_meets(t, size, b, start, len))
 }
 
 // Fills the first k entries of a table of blocks of `size` bytes: each gets the end of the last block that stands there or before it.
@@ -74,13 +60,11 @@ pub fn fill(t: &mut [u32], k: usize, size: u32)
     ensures { Carried size k t.old t.new }
 {
     let mut last = 0;
-    let mut b = 0;
-    while b < k {
-        if t[b] != 0 {
-            last = t[b] + size;
+    for entry in t[..k].iter_mut() {
+        if *entry != 0 {
+            last = *entry + size;
         }
-        t[b] = last;
-        b += 1;
+        *entry = last;
     }
 }
 
@@ -93,51 +77,51 @@ pub fn meets_block(t: &[u32], page: usize, size: usize, start: usize, len: usize
 {
     let end = start + len;
     let b = (end - 1) / page;
-    let here = wide(t[b + 1]);
-    if here <= start {
-        return false;
-    }
-    if here < end + size {
-        return true;
-    }
-    start < wide(t[b])
+    let here = t[b + 1] as usize;
+    start < here && (here < end + size || start < t[b] as usize)
+}
+
+// Whether a part of the map shares a byte with the range.
+fn part_meets(part: Part, start: usize, len: usize) -> bool
+    requires { start + len ≤ map_limit }
+    ensures { result ≡ share part.at part.size start len }
+{
+    numbers::ranges_share(part.at as usize, part.size as usize, start, len)
 }
 
 // Whether a block at p would meet what its kind keeps off.
+#[tactic(auto, unfolding(crate::specs::Tables::keeps_off))]
 fn keeps_off(kind: Kind, other: &[u32], p: usize) -> bool
     requires { Bounds kind (p + kind.size) other.now }
     ensures { result ≡ keeps_off kind other.now p }
 {
     let size = kind.size;
-    if numbers::ranges_share(kind.first, kind.first_size, p, size) {
-        return true;
-    }
-    if numbers::ranges_share(kind.second, kind.second_size, p, size) {
-        return true;
-    }
-    meets_block(other, kind.other_page, kind.other_size, p, size)
+    part_meets(kind.first, p, size)
+        || part_meets(kind.second, p, size)
+        || meets_block(other, kind.other_page, kind.other_size, p, size)
 }
 
 // Whether p can be the next block of a chain, by the table of its blocks so far.
+#[tactic(auto, unfolding(crate::specs::Tables::good_block, numbers::specs::Ranges::within))]
 fn can_be_block(kind: Kind, other: &[u32], t: &[u32], used: usize, p: usize) -> bool
     requires { Ready kind used other.now t.now × Placed kind.page t.now × (p < 4294967296) }
     ensures { result ≡ good_block (kind_rule kind other.now) t.now used p }
 {
     let size = kind.size;
-    if p < Header::SIZE {
-        return false;
-    }
-    if used < p + size {
-        return false;
-    }
-    if keeps_off(kind, other, p) {
-        return false;
-    }
-    !meets_taken(t, kind.page, size, p, size)
+    Header::SIZE <= p
+        && p + size <= used
+        && !keeps_off(kind, other, p)
+        && !meets_taken(t, kind.page, size, p, size)
 }
 
-// The walk over a chain. The table is empty before, and has the blocks that were taken after, each at its own page.
-pub fn walk_chain(m: &[u8], used: usize, kind: Kind, other: &[u32], t: &mut [u32]) -> Walk
+// The walk over a chain: the number of its blocks. The table is empty before, and has the blocks that were taken after, each at its own page.
+pub fn walk_chain(
+    m: &[u8],
+    used: usize,
+    kind: Kind,
+    other: &[u32],
+    t: &mut [u32],
+) -> Result<usize, LinkFault>
     requires { (used ≤ length m.now) × Ready kind used other.now t.old × Empty t.old }
     ensures { (result ≡ walked (kind_rule kind other.now) m.now used) × Placed kind.page t.new
         × Table kind.head kind.page m.now (taken (kind_rule kind other.now) m.now used) t.new }
@@ -145,21 +129,21 @@ pub fn walk_chain(m: &[u8], used: usize, kind: Kind, other: &[u32], t: &mut [u32
     let page = kind.page;
     let mut n = 0;
     let mut at = kind.head;
+    // It goes along links, and no number of turns is known: a `for n in 0..` would want an answer behind its end.
     loop {
-        let p = wide(u32_at(m, at));
+        let p = u32_at(m, at) as usize;
         if p == 0 {
-            return Walk::Blocks(n);
+            return Ok(n);
         }
-        if can_be_block(kind, other, t, used, p) {
-            t[p / page + 1] = p as u32;
-            at = p;
-            n += 1;
-        } else {
-            return Walk::Fault {
+        if !can_be_block(kind, other, t, used, p) {
+            return Err(LinkFault {
                 place: at,
                 taken: n,
-            };
+            });
         }
+        t[p / page + 1] = p as u32;
+        at = p;
+        n += 1;
     }
 }
 
@@ -169,11 +153,8 @@ pub fn order_blocks(m: &[u8], head: usize, n: usize, order: &mut [u32])
     ensures { Ordered head m.now n order.new }
 {
     let mut at = head;
-    let mut k = 0;
-    while k < n {
-        let p = u32_at(m, at);
-        order[k] = p;
-        at = wide(p);
-        k += 1;
+    for block in order[..n].iter_mut() {
+        *block = u32_at(m, at);
+        at = *block as usize;
     }
 }

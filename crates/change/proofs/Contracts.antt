@@ -3,6 +3,8 @@
 use mathlib.Core.Path.{◌≡◌, refl}
 use mathlib.Core.List.{List}
 use Prim.Native.Nat.{ℕ}
+use Rattle.std.specs.Prelude.{Result}
+use Rattle.refusals.specs.declared.Refusal.{Refusal}
 use Rattle.accept.specs.Clauses.{Says}
 use Rattle.edit.specs.declared.EditAnswer.{EditAnswer}
 use Rattle.edit.proofs.Contracts.{edited-one}
@@ -22,7 +24,7 @@ reinstate-says M 𝓤 𝓛 mem run = refl
 
 -- ---- one answer each
 
-module _ (m : List ℕ) (used : ℕ) (j : List ℕ) (e s : ℕ) {a a' : EditAnswer} {m₁ m₂ j₁ j₂ : List ℕ} where
+module _ (m : List ℕ) (used : ℕ) (j : List ℕ) (e s : ℕ) {a a' : Result EditAnswer Refusal} {m₁ m₂ j₁ j₂ : List ℕ} where
   pub remove-one : Removed m used j e s a m₁ j₁ → Removed m used j e s a' m₂ j₂ → (a ≡ a') × (m₁ ≡ m₂) × (j₁ ≡ j₂)
   remove-one = edited-one (removed m used j e s)
 

@@ -17,8 +17,8 @@ use Rattle.numbers.proofs.Below.{never}
 use Rattle.slots.specs.declared.State.{State}
 use Rattle.slots.specs.Slots.{slot_of, state_of, same_state}
 use Rattle.slots.proofs.Slots.{slot-ext}
-use Rattle.accept.specs.declared.Verdict.{Verdict}
-use Rattle.accept.specs.declared.Verdict.TheVariants.{Accepted, Refused}
+use Rattle.std.specs.Prelude.{Result, Ok, Err}
+use Rattle.refusals.specs.declared.Refusal.{Refusal}
 use Rattle.judge.specs.Rules.{slot_at, touches}
 use Rattle.judge.specs.Judging.{version_of, slot_good, is_live, bad_slot}
 use Rattle.accept.specs.Verdicts.{verdict}
@@ -117,12 +117,12 @@ module _ {m : List ℕ} {used n : ℕ} (h : Holds m used n) (s : ℕ) (l : s < 2
   pub accepted-good : is_accepted (verdict (with_sym m s y) used) ≡ slot_good (touches m n) m used (version_of m) (resym (slot_in m s) y)
   accepted-good = go (slot_good (touches m n) m used (version_of m) (resym (slot_in m s) y)) refl (verdict (with_sym m s y) used) refl
     where
-      go : (b : Bool) → slot_good (touches m n) m used (version_of m) (resym (slot_in m s) y) ≡ b → (v : Verdict) → verdict (with_sym m s y) used ≡ v → is_accepted v ≡ b
+      go : (b : Bool) → slot_good (touches m n) m used (version_of m) (resym (slot_in m s) y) ≡ b → (v : Result ℕ Refusal) → verdict (with_sym m s y) used ≡ v → is_accepted v ≡ b
       go true e v q =
           let g = slot-tells (touches m n) m used (version_of m) (resym (slot_in m s) y) e in
           rw (sym q ∙ accepted-is (sym-holds h s l y f (inr g)))
-      go false e (Refused k p) q = refl
-      go false e (Accepted k) q =
+      go false e (Err r) q = refl
+      go false e (Ok k) q =
           let g = accepted-tells (with_sym m s y) used k (q, rw (version-same (sym-change h s l y)) (holds-narrow h)) in
           let t = back (rw (same_blocks g) at g) in
           absurd (never (sym (slot_is t) ∙ e))

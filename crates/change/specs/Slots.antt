@@ -7,15 +7,14 @@
 --     can_reinstate m used n s   slot s is erased, its object's Sym is not 0, and the map with that slot live would be accepted
 --     allowed_for k m used n s   what kind 2, remove, and kind 3, reinstate, ask: a live slot; one that can be reinstated
 --     sym_for k m s              the Sym that they write: 0; the object's
-use Rattle.std.specs.Prelude.{ℕ, ◌+◌, ◌*◌, Bool, true, false, not, cond, ◌&&◌, List, eqb, ltb}
+use Rattle.std.specs.Prelude.{ℕ, ◌+◌, ◌*◌, Bool, true, false, not, cond, ◌&&◌, List, eqb, ltb, Result, Ok, Err}
 use Rattle.std.proofs.lemmas.List.Edits.{sets}
 use Rattle.numbers.specs.Bytes.{u16_at, bytes_of}
 use Rattle.slots.specs.declared.Slot.{Slot}
 use Rattle.slots.specs.declared.State.{State}
 use Rattle.slots.specs.declared.State.TheVariants.{Erased, Live}
 use Rattle.slots.specs.Slots.{state_of, same_state, sym_at}
-use Rattle.accept.specs.declared.Verdict.{Verdict}
-use Rattle.accept.specs.declared.Verdict.TheVariants.{Accepted, Refused}
+use Rattle.refusals.specs.declared.Refusal.{Refusal}
 use Rattle.judge.specs.Rules.{slot_at}
 unfoldable pub use Rattle.accept.specs.Slots.{slot_in, free_slot}
 use Rattle.accept.specs.Verdicts.{verdict}
@@ -42,9 +41,9 @@ with_sym m s y = sets m (slot_at m s + sym_at) (bytes_of 2 y)
 unfoldable pub object_sym : List ℕ → ℕ → ℕ
 object_sym m s = u16_at m (slot_in m s).position
 
-abbrev pub is_accepted : Verdict → Bool
-is_accepted (Accepted n) = true
-is_accepted (Refused n p) = false
+abbrev pub is_accepted : Result ℕ Refusal → Bool
+is_accepted (Ok n) = true
+is_accepted (Err e) = false
 
 unfoldable pub can_reinstate : List ℕ → ℕ → ℕ → ℕ → Bool
 can_reinstate m used n s =

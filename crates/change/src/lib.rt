@@ -5,13 +5,13 @@ ghost use Rattle.std.specs.Prelude.{◌≡◌, true, List, ℕ, ◌+◌, ◌*◌
 ghost use Rattle.std.proofs.lemmas.List.Edits.{sets};
 ghost use Rattle.numbers.specs.Bytes.{bytes_of};
 ghost use Rattle.records.specs.Sizes.{header_size, index_block_size, index_page, slot_size, map_limit};
+ghost use Rattle.records.specs.Kinds.{code_of};
 ghost use Rattle.chain.specs.Chains.{place};
 ghost use Rattle.chain.specs.Tables.{Empty, ends_meet};
 ghost use Rattle.chain.specs.Indexed.{Indexed};
 ghost use Rattle.judge.specs.Rules.{slot_at};
 ghost use Rattle.accept.specs.Verdicts.{Editable};
 ghost use Rattle.journal.specs.Journals.{in_use};
-ghost use Rattle.edit.specs.declared.EditAnswer.TheVariants.{Refused};
 ghost use Rattle.edit.specs.Edits.{Edited};
 ghost use Rattle.edit.specs.Lent.{Roomy, Known};
 ghost use Rattle.change.specs.Changes.{repeat_change, fresh_change, changed, Removed, Reinstated};
@@ -19,105 +19,80 @@ ghost use Rattle.change.specs.NewSyms.{sym_to_reinstate, new_sym_for};
 ghost use Rattle.slots.specs.Slots.{sym_at};
 
 use accept::examine;
-use edit::{EditAnswer, EditStart, begin, refused};
+use edit::{EditAnswer, EditStart, begin};
 use journal::{append, is_full, place_of};
 use judge::slot_good;
 use numbers::{put_u16_at, u16_at};
-use records::{Header, JournalRecord};
+use records::{EditKind, Header, JournalRecord};
+use refusals::Refusal;
 use slots::{IndexBlock, Slot, State, read_slot};
 
-// The Sym that a removal or a reinstatement writes, or none where it is not allowed.
-#[derive(Clone, Copy)]
-pub enum NewSym {
-    Write(u16),
-    None,
-}
-
-// The Sym that reinstates an erased slot.
-fn sym_to_reinstate(m: &[u8], used: usize, index: &[u32], t: Slot) -> NewSym
+// The Sym that reinstates an erased slot, or none where it may not be reinstated.
+#[tactic(auto, using(std::proofs::lemmas::Bool::Decides::nat_tests), unfolding(crate::specs::NewSyms::sym_to_reinstate))]
+fn sym_to_reinstate(m: &[u8], used: usize, index: &[u32], t: Slot) -> Option<u16>
     requires { (header_size ≤ used) × Indexed index_block_size index_page m.now used index.now × (t.len ≡ 0 → ⊥) }
     ensures { result ≡ sym_to_reinstate (ends_meet index_block_size index.now) m.now used t }
 {
     let at = t.position as usize;
     if used < at + 2 {
-        return NewSym::None;
+        return None;
     }
     let sym = u16_at(m, at);
-    if sym == 0 {
-        return NewSym::None;
-    }
-    let revived = Slot {
-        left: t.left,
-        bottom: t.bottom,
-        right: t.right,
-        top: t.top,
-        position: t.position,
-        len: t.len,
-        sym,
-    };
-    let good = slot_good(m, used, u16_at(m, Header::VERSION), index, revived);
-    if good {
-        NewSym::Write(sym)
+    let revived = Slot { sym, ..t };
+    if sym != 0 && slot_good(m, used, u16_at(m, Header::VERSION), index, revived) {
+        Some(sym)
     } else {
-        NewSym::None
+        None
     }
 }
 
-// The Sym that an edit of kind 2 or 3 writes to slot `at`.
+// The Sym that an edit of kind 2 or 3 writes to slot `at`, or none where it is not allowed.
 fn sym_for(
     m: &[u8],
     used: usize,
     index: &[u32],
     order: &[u32],
     n: usize,
-    kind: u32,
+    kind: EditKind,
     at: u32,
-) -> NewSym
+) -> Option<u16>
     requires { Editable m.now used n × Known m.now used n index.now order.now × (used + index_page ≤ length index.now * index_page)
         × (n ≤ length order.now) }
-    ensures { result ≡ new_sym_for kind m.now used n at }
+    ensures { result ≡ new_sym_for (code_of kind) m.now used n at }
 {
     let s = at as usize;
     if IndexBlock::SLOTS * n <= s {
-        return NewSym::None;
+        return None;
     }
     let found = read_slot(m, place_of(order, s));
-    let state = found.state;
-    let t = found.slot;
-    match state {
-        State::Free => NewSym::None,
-        State::Live => {
-            if kind == JournalRecord::REMOVE {
-                NewSym::Write(0)
-            } else {
-                NewSym::None
-            }
-        }
-        State::Erased => {
-            if kind == JournalRecord::REMOVE {
-                NewSym::None
-            } else {
-                sym_to_reinstate(m, used, index, t)
-            }
-        }
+    if kind == EditKind::Remove {
+        return (found.state == State::Live).then_some(0);
     }
+    if found.state != State::Erased {
+        return None;
+    }
+    sym_to_reinstate(m, used, index, found.slot)
 }
 
 // A removal or reinstatement whose number is held.
-fn repeat_change(used: usize, kind: u32, at: u32, held: u32, slot: u32) -> EditAnswer
+#[tactic(auto, using(std::proofs::lemmas::Bool::Decides::nat_tests), unfolding(crate::specs::Changes::repeat_change))]
+fn repeat_change(
+    used: usize,
+    kind: EditKind,
+    at: u32,
+    held: u32,
+    slot: u32,
+) -> Result<EditAnswer, Refusal>
     requires { used ≤ map_limit }
-    ensures { (m j : List ℕ) → result ≡ (repeat_change m used j kind at held slot).answer }
+    ensures { (m j : List ℕ) → result ≡ (repeat_change m used j (code_of kind) at held slot).answer }
 {
-    if held != kind {
-        return refused(14);
+    if held != u32::from(kind) || slot != at {
+        return Err(Refusal::NumberHeld);
     }
-    if slot != at {
-        return refused(14);
-    }
-    EditAnswer::Before {
+    Ok(EditAnswer::Before {
         slot: at,
         length: used as u32,
-    }
+    })
 }
 
 // The Sym of the slot at a place.
@@ -134,24 +109,25 @@ fn change_slot(
     used: usize,
     journal: &mut [u8],
     edit: u32,
-    kind: u32,
+    kind: EditKind,
     at: u32,
     place: usize,
     records: usize,
     sym: u16,
-) -> EditAnswer
+) -> Result<EditAnswer, Refusal>
     requires { (used ≤ map_limit) × (place ≡ slot_at map.old at) × (place + slot_size ≤ length map.old) × (records ≡ in_use journal.old) }
-    ensures { Edited (fresh_change map.old used journal.old edit kind at true sym) result map.new journal.new }
+    ensures { Edited (fresh_change map.old used journal.old edit (code_of kind) at true sym) result map.new journal.new }
 {
     if is_full(journal, records) {
-        return refused(15);
+        return Err(Refusal::JournalFull);
     }
     put_sym(map, place, sym);
-    append(journal, records, JournalRecord::new(edit, kind, at));
-    EditAnswer::Done {
+    let record = JournalRecord::new(edit, u32::from(kind), at);
+    append(journal, records, record);
+    Ok(EditAnswer::Done {
         slot: at,
         length: used as u32,
-    }
+    })
 }
 
 // An edit of kind 2 or 3, with lent tables, the index blocks' empty before.
@@ -160,38 +136,53 @@ fn change_with(
     used: usize,
     journal: &mut [u8],
     edit: u32,
-    kind: u32,
+    kind: EditKind,
     at: u32,
     index: &mut [u32],
     order: &mut [u32],
-) -> EditAnswer
+) -> Result<EditAnswer, Refusal>
     requires { (used ≤ map_limit → Roomy used index.old order.old) × Empty index.old }
-    ensures { Edited (changed map.old used journal.old edit kind at) result map.new journal.new }
+    ensures { Edited (changed map.old used journal.old edit (code_of kind) at) result map.new journal.new }
 {
     let v = examine(map, used, index);
-    let start = begin(map, used, journal, edit, v, order);
+    let start = begin(map, used, journal, edit, v, order)?;
     match start {
-        EditStart::Refused { number, place } => EditAnswer::Refused { number, place },
         EditStart::Held {
-            blocks: _,
             kind: held,
             slot,
+            ..
         } => repeat_change(used, kind, at, held, slot),
         EditStart::New {
             blocks,
             records,
-            free: _,
+            ..
         } => {
-            let sym = sym_for(map, used, index, order, blocks, kind, at);
-            match sym {
-                NewSym::None => refused(12),
-                NewSym::Write(y) => {
-                    let place = place_of(order, at as usize);
-                    change_slot(map, used, journal, edit, kind, at, place, records, y)
-                }
-            }
+            let Some(sym) = sym_for(map, used, index, order, blocks, kind, at) else {
+                return Err(Refusal::WrongState);
+            };
+            let place = place_of(order, at as usize);
+            change_slot(map, used, journal, edit, kind, at, place, records, sym)
         }
     }
+}
+
+// An edit of kind 2 or 3, with tables of so many entries. They stand in this function alone: so the compiler gives each size its own room, and no more than the
+// map needs is taken.
+fn change_with_tables<const T: usize, const B: usize>(
+    map: &mut [u8],
+    used: usize,
+    journal: &mut [u8],
+    edit: u32,
+    kind: EditKind,
+    at: u32,
+) -> Result<EditAnswer, Refusal>
+    requires { (used ≤ map_limit → (used + index_page ≤ T * index_page) × (used < header_size + index_block_size * (B + 1)))
+        × (T ≤ 65536) × (B ≤ 65536) }
+    ensures { Edited (changed map.old used journal.old edit (code_of kind) at) result map.new journal.new }
+{
+    let mut index = [0u32; T];
+    let mut order = [0u32; B];
+    change_with(map, used, journal, edit, kind, at, &mut index, &mut order)
 }
 
 // An edit of kind 2 or 3, with tables as large as the map needs.
@@ -200,31 +191,44 @@ fn change(
     used: usize,
     journal: &mut [u8],
     edit: u32,
-    kind: u32,
+    kind: EditKind,
     at: u32,
-) -> EditAnswer
-    ensures { Edited (changed map.old used journal.old edit kind at) result map.new journal.new }
+) -> Result<EditAnswer, Refusal>
+    ensures { Edited (changed map.old used journal.old edit (code_of kind) at) result map.new journal.new }
 {
     if used <= Header::SMALL {
-        let mut index = [0u32; IndexBlock::SMALL_TABLE];
-        let mut order = [0u32; IndexBlock::SMALL_MOST];
-        return change_with(map, used, journal, edit, kind, at, &mut index, &mut order);
+        change_with_tables::<{ IndexBlock::SMALL_TABLE }, { IndexBlock::SMALL_MOST }>(
+            map, used, journal, edit, kind, at,
+        )
+    } else {
+        change_with_tables::<{ IndexBlock::TABLE }, { IndexBlock::MOST }>(
+            map, used, journal, edit, kind, at,
+        )
     }
-    let mut index = [0u32; IndexBlock::TABLE];
-    let mut order = [0u32; IndexBlock::MOST];
-    change_with(map, used, journal, edit, kind, at, &mut index, &mut order)
 }
 
 // Remove: a live slot's Sym becomes 0. Any buffer, any `used`, any journal, any edit number, any slot.
-pub fn remove(map: &mut [u8], used: usize, journal: &mut [u8], edit: u32, at: u32) -> EditAnswer
+pub fn remove(
+    map: &mut [u8],
+    used: usize,
+    journal: &mut [u8],
+    edit: u32,
+    at: u32,
+) -> Result<EditAnswer, Refusal>
     ensures { Removed map.old used journal.old edit at result map.new journal.new }
 {
-    change(map, used, journal, edit, JournalRecord::REMOVE, at)
+    change(map, used, journal, edit, EditKind::Remove, at)
 }
 
 // Reinstate: an erased slot gets its object's Sym. Any buffer, any `used`, any journal, any edit number, any slot.
-pub fn reinstate(map: &mut [u8], used: usize, journal: &mut [u8], edit: u32, at: u32) -> EditAnswer
+pub fn reinstate(
+    map: &mut [u8],
+    used: usize,
+    journal: &mut [u8],
+    edit: u32,
+    at: u32,
+) -> Result<EditAnswer, Refusal>
     ensures { Reinstated map.old used journal.old edit at result map.new journal.new }
 {
-    change(map, used, journal, edit, JournalRecord::REINSTATE, at)
+    change(map, used, journal, edit, EditKind::Reinstate, at)
 }

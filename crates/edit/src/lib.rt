@@ -9,101 +9,56 @@ ghost use Rattle.chain.specs.Chains.{place};
 ghost use Rattle.chain.specs.Tables.{Ordered};
 ghost use Rattle.accept.specs.Opens.{with_free};
 ghost use Rattle.accept.specs.Verdicts.{verdict, Editable};
-ghost use Rattle.edit.specs.declared.EditAnswer.TheVariants.{Refused};
-ghost use Rattle.edit.specs.Edits.{number_of, place_of, before_of, slot_no, length_of, start_of};
+ghost use Rattle.edit.specs.Edits.{before_of, slot_no, length_of, start_of};
 
 use accept::ExaminedMap;
 use chain::order_blocks;
-use journal::{JournalLook, look_up};
+use journal::{JournalLook, MapSlots, look_up};
 use records::Header;
+use refusals::Refusal;
 
-// What an edit answers: done, or done before, with the slot and the map's length; or a refusal.
-#[derive(Clone, Copy)]
+// What an edit answers where it isn't refused: done, or done before, with the slot and the map's length.
+#[derive(Clone, Copy, Debug, PartialEq, Eq)]
 pub enum EditAnswer {
     Done { slot: u32, length: u32 },
     Before { slot: u32, length: u32 },
-    Refused { number: u32, place: u32 },
 }
 
-// Document 01's number of an answer.
-pub fn number(a: EditAnswer) -> u32
-    ensures { result ≡ number_of a }
+// What C is told of an answer, which has no Result there: 1 for "done before", else 0.
+pub fn before(answer: &Result<EditAnswer, Refusal>) -> u32
+    ensures { result ≡ before_of answer.now }
 {
-    match a {
-        EditAnswer::Done { slot: _, length: _ } => 0,
-        EditAnswer::Before { slot: _, length: _ } => 0,
-        EditAnswer::Refused { number, place: _ } => number,
+    match answer {
+        Ok(EditAnswer::Before { .. }) => 1,
+        _ => 0,
     }
 }
 
-// Document 01's place of an answer.
-pub fn place(a: EditAnswer) -> u32
-    ensures { result ≡ place_of a }
+// The slot of a done edit; 0 in a refusal.
+pub fn slot(answer: &Result<EditAnswer, Refusal>) -> u32
+    ensures { result ≡ slot_no answer.now }
 {
-    match a {
-        EditAnswer::Done { slot: _, length: _ } => 0,
-        EditAnswer::Before { slot: _, length: _ } => 0,
-        EditAnswer::Refused { number: _, place } => place,
+    match answer {
+        Ok(EditAnswer::Done { slot, .. } | EditAnswer::Before { slot, .. }) => *slot,
+        Err(_) => 0,
     }
 }
 
-// 1 for "done before", else 0.
-pub fn before(a: EditAnswer) -> u32
-    ensures { result ≡ before_of a }
+// The map's length after an edit; 0 in a refusal.
+pub fn length(answer: &Result<EditAnswer, Refusal>) -> u32
+    ensures { result ≡ length_of answer.now }
 {
-    match a {
-        EditAnswer::Done { slot: _, length: _ } => 0,
-        EditAnswer::Before { slot: _, length: _ } => 1,
-        EditAnswer::Refused {
-            number: _,
-            place: _,
-        } => 0,
+    match answer {
+        Ok(EditAnswer::Done { length, .. } | EditAnswer::Before { length, .. }) => *length,
+        Err(_) => 0,
     }
 }
 
-// The slot of a done edit.
-pub fn slot(a: EditAnswer) -> u32
-    ensures { result ≡ slot_no a }
-{
-    match a {
-        EditAnswer::Done { slot, length: _ } => slot,
-        EditAnswer::Before { slot, length: _ } => slot,
-        EditAnswer::Refused {
-            number: _,
-            place: _,
-        } => 0,
-    }
-}
-
-// The map's length after an edit.
-pub fn length(a: EditAnswer) -> u32
-    ensures { result ≡ length_of a }
-{
-    match a {
-        EditAnswer::Done { slot: _, length } => length,
-        EditAnswer::Before { slot: _, length } => length,
-        EditAnswer::Refused {
-            number: _,
-            place: _,
-        } => 0,
-    }
-}
-
-// A refusal that has no place.
-pub fn refused(number: u32) -> EditAnswer
-    ensures { result ≡ Refused number 0 }
-{
-    EditAnswer::Refused { number, place: 0 }
-}
-
-// How an edit starts: refused by the check, for its layout or for its journal; or its number is held, by a record of this kind and slot; or it is new, in a
-// map of so many index blocks and a journal of so many records, with its first free slot.
-#[derive(Clone, Copy)]
+// How an edit starts that isn't refused by the check, for its layout or for its journal: its number is held, by a record of this kind and slot; or it is new,
+// in a map of so many index blocks and a journal of so many records. `free` is the slot that an add takes: the first free one, or where none is free the first
+// one of a new block, 256 times the blocks. `kind` is the number in the journal.
+#[derive(Clone, Copy, Debug, PartialEq, Eq)]
 pub enum EditStart {
-    Refused {
-        number: u32,
-        place: u32,
-    },
     Held {
         blocks: usize,
         kind: u32,
@@ -123,34 +78,28 @@ pub fn begin(
     used: usize,
     j: &[u8],
     e: u32,
-    v: ExaminedMap,
+    v: Result<ExaminedMap, Refusal>,
     order: &mut [u32],
-) -> EditStart
+) -> Result<EditStart, Refusal>
     requires { (v ≡ with_free m.now (verdict m.now used)) × (used ≤ map_limit → used < header_size + index_block_size * (length order.old + 1)) }
     ensures { (result ≡ start_of m.now used j.now e)
         × ((n : ℕ) → Editable m.now used n → Ordered index_head m.now n order.new) }
 {
-    match v {
-        ExaminedMap::Refused { number, place } => EditStart::Refused { number, place },
-        ExaminedMap::Wide { blocks: _ } => EditStart::Refused {
-            number: 17,
-            place: 0,
+    let ExaminedMap::Accepted { blocks, free } = v? else {
+        return Err(Refusal::WideMap);
+    };
+    order_blocks(m, Header::INDEX, blocks, order);
+    let slots = MapSlots {
+        map: m,
+        order: &order[..blocks],
+    };
+    let look = look_up(j, slots, e)?;
+    Ok(match look {
+        JournalLook::Held { kind, slot } => EditStart::Held { blocks, kind, slot },
+        JournalLook::New { used: records } => EditStart::New {
+            blocks,
+            records,
+            free,
         },
-        ExaminedMap::Accepted { blocks, free } => {
-            order_blocks(m, Header::INDEX, blocks, order);
-            let look = look_up(j, m, order, blocks, e);
-            match look {
-                JournalLook::Malformed => EditStart::Refused {
-                    number: 13,
-                    place: 0,
-                },
-                JournalLook::Held { kind, slot } => EditStart::Held { blocks, kind, slot },
-                JournalLook::New { used: records } => EditStart::New {
-                    blocks,
-                    records,
-                    free,
-                },
-            }
-        }
-    }
+    })
 }

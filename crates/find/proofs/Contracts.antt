@@ -6,13 +6,13 @@ use Prim.Native.Nat.{ℕ}
 use Rattle.windows.specs.declared.Window.{Window}
 use Rattle.accept.specs.Clauses.{Says}
 use Rattle.accept.proofs.Contracts.{one}
-use Rattle.find.specs.declared.SearchAnswer.{SearchAnswer}
-use Rattle.find.specs.Searches.{number_of, place_of, count_of, blocks_of, checked_length, Searched}
+use Rattle.std.specs.Prelude.{Result}
+use Rattle.refusals.specs.declared.Refusal.{Refusal}
+use Rattle.find.specs.declared.Listed.{Listed}
+use Rattle.find.specs.Searches.{count_of, blocks_of, checked_length, Searched}
 use Rattle.find.specs.Inputs.{SearchedInput}
 use Rattle.find.specs.contracts.search as search
 use Rattle.find.specs.contracts.search_input as search-input
-use Rattle.find.specs.contracts.number as number
-use Rattle.find.specs.contracts.place as place
 use Rattle.find.specs.contracts.count as count
 use Rattle.find.specs.contracts.blocks as blocks
 use Rattle.find.specs.contracts.checked_length as checked-length
@@ -27,16 +27,10 @@ pub search-input-says : Says search-input.ended (λ M 𝓤 𝓛. search-input.cl
     (λ κs (i, (l, _)) r (_, (after, _)). SearchedInput i.now l.now r after.now)
 search-input-says M 𝓤 𝓛 mem run = refl
 
-pub number-says : Says number.ended (λ M 𝓤 𝓛. number.clauses 𝓛) (λ κs (a, _) r e. r ≡ number_of a)
-number-says M 𝓤 𝓛 mem run = refl
-
-pub place-says : Says place.ended (λ M 𝓤 𝓛. place.clauses 𝓛) (λ κs (a, _) r e. r ≡ place_of a)
-place-says M 𝓤 𝓛 mem run = refl
-
-pub count-says : Says count.ended (λ M 𝓤 𝓛. count.clauses 𝓛) (λ κs (a, _) r e. r ≡ count_of a)
+pub count-says : Says count.ended (λ M 𝓤 𝓛. count.clauses 𝓛) (λ κs (a, _) r e. r ≡ count_of a.now)
 count-says M 𝓤 𝓛 mem run = refl
 
-pub blocks-says : Says blocks.ended (λ M 𝓤 𝓛. blocks.clauses 𝓛) (λ κs (a, _) r e. r ≡ blocks_of a)
+pub blocks-says : Says blocks.ended (λ M 𝓤 𝓛. blocks.clauses 𝓛) (λ κs (a, _) r e. r ≡ blocks_of a.now)
 blocks-says M 𝓤 𝓛 mem run = refl
 
 pub checked-length-says : Says checked-length.ended (λ M 𝓤 𝓛. checked-length.clauses 𝓛) (λ κs (m, (used, _)) r e. r ≡ checked_length m.now used)
@@ -44,9 +38,9 @@ checked-length-says M 𝓤 𝓛 mem run = refl
 
 -- ---- one answer each
 
-pub search-one : (m : List ℕ) (used : ℕ) (w : Window) (l : List ℕ) {a a' : SearchAnswer} {z z' : List ℕ}
+pub search-one : (m : List ℕ) (used : ℕ) (w : Window) (l : List ℕ) {a a' : Result Listed Refusal} {z z' : List ℕ}
     → Searched m used w l a z → Searched m used w l a' z' → (a ≡ a') × (z ≡ z')
 search-one m used w l p q = (one p.0 q.0, one p.1 q.1)
 
-pub search-input-one : (i l : List ℕ) {a a' : SearchAnswer} {z z' : List ℕ} → SearchedInput i l a z → SearchedInput i l a' z' → (a ≡ a') × (z ≡ z')
+pub search-input-one : (i l : List ℕ) {a a' : Result Listed Refusal} {z z' : List ℕ} → SearchedInput i l a z → SearchedInput i l a' z' → (a ≡ a') × (z ≡ z')
 search-input-one i l p q = (one p.0 q.0, one p.1 q.1)

@@ -11,7 +11,7 @@
 --     view-answers, view-lists      a search through a view is the search
 use Prim.Native.Nat.{ℕ, ◌*◌, ◌≤◌, ◌<◌}
 use mathlib.Core.Bool.{Bool, true, false, cond, and-eq-true_iff}
-use mathlib.Core.Path.{◌≡◌, refl, sym, ◌∙◌}
+use mathlib.Core.Path.{◌≡◌, refl, sym, ap, ◌∙◌}
 use mathlib.Core.Logic.{◌↔◌}
 use mathlib.Core.List.{List, ◌++◌}
 use native.Mathlib.Nat.{zero-add}
@@ -30,17 +30,18 @@ use Rattle.windows.specs.declared.Window.{Window}
 use Rattle.windows.specs.declared.Rectangle.{Rectangle}
 use Rattle.windows.specs.Windows.{window_good, rectangle_at, meets_window}
 use Rattle.chain.specs.Chains.{walked}
-use Rattle.chain.specs.declared.Walk.TheVariants.{Blocks}
-use Rattle.accept.specs.declared.Verdict.{Verdict}
-use Rattle.accept.specs.declared.Verdict.TheVariants as verdicts
+use Rattle.std.specs.Prelude.{Result, Ok, Err}
+use Rattle.refusals.specs.declared.Refusal.{Refusal}
+use Rattle.refusals.specs.declared.Refusal.TheVariants.{BadLength, BadWindow, ShortList}
+use Rattle.refusals.specs.Refusals.{answer_number}
+use Rattle.refusals.proofs.Passing.{refused}
 use Rattle.judge.specs.Rules.{family_of, index_rule_of, slot_at_of}
 use Rattle.judge.specs.Judging.{length_good}
 use Rattle.accept.specs.Verdicts.{header_judged, verdict}
 use Rattle.accept.proofs.Accepting.{verdict-tells}
 use Rattle.look.specs.Found.{live_at, live_in, slots_for, found}
-use Rattle.find.specs.declared.SearchAnswer.{SearchAnswer}
-use Rattle.find.specs.declared.SearchAnswer.TheVariants.{Found, Short, Refused}
-use Rattle.find.specs.Searches.{number_of, count_of, checked_length, answer_for, answer_of, list_for, list_after, Searched, In}
+use Rattle.find.specs.declared.Listed.{Listed}
+use Rattle.find.specs.Searches.{count_of, checked_length, answer_for, answer_of, list_for, list_after, Searched, In}
 use Rattle.find.proofs.Selected.{sel-in, sel-ascends, sel-at}
 
 -- ---- which slots are listed
@@ -93,104 +94,102 @@ live-is m w s = (
 
 -- ---- what is answered
 
+-- what is found: so many slots, in so many blocks
+abbrev pub listing : ℕ → ℕ → Listed
+listing c b = record { count = c; blocks = b }
+
 module _ (m : List ℕ) (used : ℕ) (w : Window) (room : ℕ) where
-  pub answer-refused : {k p : ℕ} → verdict m used ≡ verdicts.Refused k p → answer_of m used w room ≡ Refused k p
+  pub answer-refused : {x : Refusal} → verdict m used ≡ Err x → answer_of m used w room ≡ Err x
   unfolding answer_of answer_for
   answer-refused e = rw e
 
-  module _ {n : ℕ} (e : verdict m used ≡ verdicts.Accepted n) where
-    pub answer-window : window_good w ≡ false → answer_of m used w room ≡ Refused 8 0
+  module _ {n : ℕ} (e : verdict m used ≡ Ok n) where
+    pub answer-window : window_good w ≡ false → answer_of m used w room ≡ Err BadWindow
     unfolding answer_of answer_for
     answer-window g = rw (e, g)
 
     module _ {c : ℕ} (g : window_good w ≡ true) (f : c ≡ length (found m n w)) where
-      pub answer-short : room < c → answer_of m used w room ≡ Short c
+      pub answer-short : room < c → answer_of m used w room ≡ Err (ShortList c)
       unfolding answer_of answer_for
       answer-short h = rw (e, g, ← f, lt-ltb room c h)
 
-      pub answer-found : c ≤ room → answer_of m used w room ≡ Found c n
+      pub answer-found : c ≤ room → answer_of m used w room ≡ Ok (listing c n)
       unfolding answer_of answer_for
       answer-found h = rw (e, g, ← f, le-ltb room c h)
 
-short-not : {k c b : ℕ} → Short k ≡ Found c b → ⊥
-short-not e = let z : ◌≡◌ {A = ℕ} 0 1 = cc in omega arith
-
-refused-not : {k p c b : ℕ} → Refused k p ≡ Found c b → ⊥
-refused-not e = let z : ◌≡◌ {A = ℕ} 0 1 = cc in omega arith
-
 -- and back: what an answer that finds tells
 pub record Finds (m : List ℕ) (used : ℕ) (w : Window) (room c b : ℕ) : Type 0 where
-  pub accepted : verdict m used ≡ verdicts.Accepted b
+  pub accepted : verdict m used ≡ Ok b
   pub window : window_good w ≡ true
   pub counted : c ≡ length (found m b w)
   pub fits : c ≤ room
 
-cases-found : (g t : Bool) (k n : ℕ) {c b : ℕ} → cond g (cond t (Short k) (Found k n)) (Refused 8 0) ≡ Found c b → (g ≡ true) × (t ≡ false) × (k ≡ c) × (n ≡ b)
-cases-found true false k n e = (refl, refl, cc, cc)
-cases-found true true k n e = absurd (short-not e)
-cases-found false t k n e = absurd (refused-not e)
+cases-found : (g t : Bool) (k n : ℕ) {f : Listed} → cond g (cond t (Err (ShortList k)) (Ok (listing k n))) (Err BadWindow) ≡ Ok f → (g ≡ true) × (t ≡ false) × (k ≡ f.count) × (n ≡ f.blocks)
+cases-found true false k n {f} e =
+    let q : listing k n ≡ f = cc in
+    (refl, refl, ap (λ (l : Listed). l.count) q, ap (λ (l : Listed). l.blocks) q)
+cases-found true true k n e = absurd (refused e)
+cases-found false t k n e = absurd (refused e)
 
-pub found-tells : (m : List ℕ) (used : ℕ) (w : Window) (room : ℕ) {c b : ℕ} → answer_of m used w room ≡ Found c b → Finds m used w room c b
+pub found-tells : (m : List ℕ) (used : ℕ) (w : Window) (room : ℕ) {f : Listed} → answer_of m used w room ≡ Ok f → Finds m used w room f.count f.blocks
 unfolding answer_of answer_for
-found-tells m used w room {c} {b} h = go (verdict m used) refl h
+found-tells m used w room {f} h = go (verdict m used) refl h
   where
-    go : (v : Verdict) → verdict m used ≡ v → answer_for v (λ n. found m n w) (window_good w) room ≡ Found c b → Finds m used w room c b
-    go (verdicts.Refused k p) e f = absurd (refused-not f)
-    go (verdicts.Accepted n) e f =
-        let k = cases-found (window_good w) (ltb room (length (found m n w))) (length (found m n w)) n f in
+    go : (v : Result ℕ Refusal) → verdict m used ≡ v → answer_for v (λ n. found m n w) (window_good w) room ≡ Ok f → Finds m used w room f.count f.blocks
+    go (Err x) e g = absurd (refused g)
+    go (Ok n) e g =
+        let k = cases-found (window_good w) (ltb room (length (found m n w))) (length (found m n w)) n g in
         rw (← k.2, ← k.3) (record { accepted = e; window = k.0; counted = refl; fits = ltb-false room (length (found m n w)) k.1 })
 
-pub blocks-walked : (m : List ℕ) (used : ℕ) (w : Window) (room : ℕ) {c b : ℕ} → answer_of m used w room ≡ Found c b → walked (index_rule_of (family_of m) m) m used ≡ Blocks b
-blocks-walked m used w room {b} e = (verdict-tells m used b (found-tells m used w room e).accepted).index
+pub blocks-walked : (m : List ℕ) (used : ℕ) (w : Window) (room : ℕ) {f : Listed} → answer_of m used w room ≡ Ok f → walked (index_rule_of (family_of m) m) m used ≡ Ok f.blocks
+blocks-walked m used w room {f} e = (verdict-tells m used f.blocks (found-tells m used w room e).accepted).index
 
 -- ---- what the lent list holds afterwards
 
 module _ (m : List ℕ) (used : ℕ) (w : Window) (l : List ℕ) where
-  by_answer : {a : SearchAnswer} → answer_of m used w (length l) ≡ a → list_after m used w l ≡ list_for a (λ n. found m n w) l
+  by_answer : {a : Result Listed Refusal} → answer_of m used w (length l) ≡ a → list_after m used w l ≡ list_for a (λ n. found m n w) l
   unfolding list_after
   by_answer e = rw e
 
   -- the answer and the list, as the code leaves them
-  pub answers : {a : SearchAnswer} → answer_of m used w (length l) ≡ a → Searched m used w l a (list_for a (λ n. found m n w) l)
+  pub answers : {a : Result Listed Refusal} → answer_of m used w (length l) ≡ a → Searched m used w l a (list_for a (λ n. found m n w) l)
   answers e = (sym e, sym (by_answer e))
 
-  pub listed : {c b : ℕ} → answer_of m used w (length l) ≡ Found c b → (i : ℕ) → i < c → get_or (list_after m used w l) i 0 ≡ get_or (found m b w) i 0
-  listed {b} e i h =
+  pub listed : {f : Listed} → answer_of m used w (length l) ≡ Ok f → (i : ℕ) → i < f.count → get_or (list_after m used w l) i 0 ≡ get_or (found m f.blocks w) i 0
+  listed {f} e i h =
       let t = found-tells m used w (length l) e in
-      rw (by_answer e) (rw zero-add at (get_or-sets-in (found m b w) l 0 i (omega (arith, t.counted)) (omega (arith, t.counted, t.fits))))
+      rw (by_answer e) (rw zero-add at (get_or-sets-in (found m f.blocks w) l 0 i (omega (arith, t.counted)) (omega (arith, t.counted, t.fits))))
 
-  pub list-found : {c b : ℕ} → answer_of m used w (length l) ≡ Found c b → list_after m used w l ≡ found m b w ++ drop c l
-  list-found {b} e =
+  pub list-found : {f : Listed} → answer_of m used w (length l) ≡ Ok f → list_after m used w l ≡ found m f.blocks w ++ drop f.count l
+  list-found {f} e =
       let t = found-tells m used w (length l) e in
-      rw t.counted (by_answer e ∙ (rw zero-add at (sets-eq (found m b w) l 0 (omega (arith, t.counted, t.fits)))))
+      rw t.counted (by_answer e ∙ (rw zero-add at (sets-eq (found m f.blocks w) l 0 (omega (arith, t.counted, t.fits)))))
 
   pub kept : (i : ℕ) → count_of (answer_of m used w (length l)) ≤ i → get_or (list_after m used w l) i 0 ≡ get_or l i 0
   kept i = go (answer_of m used w (length l)) refl
     where
-      go : (a : SearchAnswer) → answer_of m used w (length l) ≡ a → count_of a ≤ i → get_or (list_after m used w l) i 0 ≡ get_or l i 0
-      go (Found c b) e h = rw (by_answer e) (get_or-sets-high (found m b w) l 0 i (omega (arith, (found-tells m used w (length l) e).counted)))
-      go (Short c) e h = rw (by_answer e)
-      go (Refused k p) e h = rw (by_answer e)
+      go : (a : Result Listed Refusal) → answer_of m used w (length l) ≡ a → count_of a ≤ i → get_or (list_after m used w l) i 0 ≡ get_or l i 0
+      go (Ok f) e h = rw (by_answer e) (get_or-sets-high (found m f.blocks w) l 0 i (omega (arith, (found-tells m used w (length l) e).counted)))
+      go (Err x) e h = rw (by_answer e)
 
   -- a window that is not good
   pub window-leaves : window_good w ≡ false → list_after m used w l ≡ l
   window-leaves g = go (verdict m used) refl
     where
-      go : (v : Verdict) → verdict m used ≡ v → list_after m used w l ≡ l
-      go (verdicts.Refused k p) e = by_answer (answer-refused m used w (length l) e)
-      go (verdicts.Accepted n) e = by_answer (answer-window m used w (length l) e g)
+      go : (v : Result ℕ Refusal) → verdict m used ≡ v → list_after m used w l ≡ l
+      go (Err x) e = by_answer (answer-refused m used w (length l) e)
+      go (Ok n) e = by_answer (answer-window m used w (length l) e g)
 
-  pub refusal-leaves : (number_of (answer_of m used w (length l)) ≡ 0 → ⊥) → list_after m used w l ≡ l
+  pub refusal-leaves : (answer_number (answer_of m used w (length l)) ≡ 0 → ⊥) → list_after m used w l ≡ l
   refusal-leaves = go (answer_of m used w (length l)) refl
     where
-      go : (a : SearchAnswer) → answer_of m used w (length l) ≡ a → (number_of a ≡ 0 → ⊥) → list_after m used w l ≡ l
-      go (Found c b) e h = absurd (h refl)
-      go (Short c) e h = by_answer e
-      go (Refused k p) e h = by_answer e
+      go : (a : Result Listed Refusal) → answer_of m used w (length l) ≡ a → (answer_number a ≡ 0 → ⊥) → list_after m used w l ≡ l
+      go (Ok f) e h = absurd (h refl)
+      go (Err x) e h = by_answer e
 
 -- ---- a search through a view, whose length is checked first, is the search
 
-length-bad : (m : List ℕ) (used : ℕ) → length_good m used ≡ false → verdict m used ≡ verdicts.Refused 1 0
+length-bad : (m : List ℕ) (used : ℕ) → length_good m used ≡ false → verdict m used ≡ Err BadLength
 unfolding verdict header_judged
 length-bad m used e = rw e
 

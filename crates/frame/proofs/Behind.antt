@@ -14,16 +14,17 @@ use Rattle.records.specs.Headers.{index_head, symbol_head, is_wide}
 use Rattle.slots.specs.declared.Slot.{Slot}
 use Rattle.slots.specs.declared.State.TheVariants.{Free}
 use Rattle.slots.specs.Slots.{state_of, same_state}
-use Rattle.chain.specs.declared.Walk.{Walk}
-use Rattle.chain.specs.declared.Walk.TheVariants.{Blocks, Fault}
+use Rattle.chain.specs.declared.LinkFault.{LinkFault}
+use Rattle.std.specs.Prelude.{Result, Ok, Err}
 use Rattle.chain.specs.Chains.{Rule, place, block, bad_link, stops, taken, walked}
 use Rattle.chain.proofs.Chains.{taken_pass, walked-pass, walked-taken}
 use Rattle.chain.proofs.Cells.{cell_lies}
 use Rattle.chain.proofs.Frame.{Kept, less, places-kept, blocks-kept, cells-kept, meets-kept}
 use Rattle.judge.specs.Rules.{Family, family_of, index_rule_of, symbol_rule_of, touches_of, slot_at_of, touches, slot_at, entry_at}
 use Rattle.judge.specs.Judging.{version_of, length_good}
-use Rattle.accept.specs.declared.Verdict.TheVariants.{Accepted}
-use Rattle.accept.specs.declared.JudgedMap.TheVariants.{Good, Bad}
+use Rattle.refusals.specs.declared.Refusal.{Refusal}
+use Rattle.refusals.specs.declared.Refusal.TheVariants.{BadSymbol, BadSlot}
+use Rattle.refusals.specs.Refusals.{good}
 use Rattle.accept.specs.Slots.{slot_in, free_slot}
 use Rattle.accept.specs.Verdicts.{cells_judged, header_judged, verdict, after_index_of, entries_judged_of, slots_judged_of, symbols_judged_of}
 use Rattle.accept.proofs.Firsts.{first-same}
@@ -36,13 +37,13 @@ use Rattle.frame.proofs.Same.{SameMap, Alike, number_same, version-alike, header
 pub first_alike : (p q : ℕ → Bool) (n : ℕ) → ((i : ℕ) → i < n → q i ≡ p i) → first q n ≡ first p n
 first_alike p q n e = let h = first-same e (first-law p n) in first-is q n (first p n) h.within h.before h.here
 
-pub cells-alike : (number : ℕ) (bad bad' : ℕ → Bool) (place place' : ℕ → ℕ) (n : ℕ) → ((i : ℕ) → i < n → bad' i ≡ bad i)
-    → ((i : ℕ) → i < n → place' i ≡ place i) → cells_judged number bad' place' n ≡ cells_judged number bad place n
+pub cells-alike : (refusal : ℕ → Refusal) (bad bad' : ℕ → Bool) (place place' : ℕ → ℕ) (n : ℕ) → ((i : ℕ) → i < n → bad' i ≡ bad i)
+    → ((i : ℕ) → i < n → place' i ≡ place i) → cells_judged refusal bad' place' n ≡ cells_judged refusal bad place n
 unfolding cells_judged
-cells-alike number bad bad' place place' n e at = rw (first_alike bad bad' n e) (go (ltb (first bad n) n) refl)
+cells-alike refusal bad bad' place place' n e at = rw (first_alike bad bad' n e) (go (ltb (first bad n) n) refl)
   where
     go : (b : Bool) → ltb (first bad n) n ≡ b
-        → cond (ltb (first bad n) n) (Bad number (place' (first bad n))) Good ≡ cond (ltb (first bad n) n) (Bad number (place (first bad n))) Good
+        → cond (ltb (first bad n) n) (Err (refusal (place' (first bad n)))) good ≡ cond (ltb (first bad n) n) (Err (refusal (place (first bad n)))) good
     go true f = rw (at (first bad n) (ltb-true (first bad n) n f))
     go false f = rw f
 
@@ -87,7 +88,7 @@ module _ {used : ℕ} {m m' : List ℕ} (s : SameMap used m m') where
     index-walk : walked (index_rule_of f m') m' used ≡ walked (index_rule_of f m) m used
     index-walk = ap (λ (r : Rule). walked r m' used) index-rule ∙ walked_same (index_rule_of f m) (omega arith) index-least
 
-    module _ {n : ℕ} (e : walked (index_rule_of f m) m used ≡ Blocks n) where
+    module _ {n : ℕ} (e : walked (index_rule_of f m) m used ≡ Ok n) where
       index-links : Kept index_head m m' (n + 1)
       index-links = rw (walked-taken (index_rule_of f m) m used e) at (links-same (index_rule_of f m) (omega arith) index-least)
 
@@ -103,7 +104,7 @@ module _ {used : ℕ} {m m' : List ℕ} (s : SameMap used m m') where
       slots-alike : slots_judged_of f m' used n ≡ slots_judged_of f m used n
       unfolding slots_judged_of
       slots-alike =
-          cells-alike 7 (λ i. f.slot_at_fault (touches_of f m n) m used (slot_at_of f m i)) (λ i. f.slot_at_fault (touches_of f m' n) m' used (slot_at_of f m' i))
+          cells-alike BadSlot (λ i. f.slot_at_fault (touches_of f m n) m used (slot_at_of f m i)) (λ i. f.slot_at_fault (touches_of f m' n) m' used (slot_at_of f m' i))
           (slot_at_of f m) (slot_at_of f m') (256 * n)
           (λ i l. rw (slot-place i l, index-touch) (a.slot (touches_of f m n) (slot_at_of f m i) (slot-low i l)))
           slot-place
@@ -120,7 +121,7 @@ module _ {used : ℕ} {m m' : List ℕ} (s : SameMap used m m') where
       entries-alike : entries_judged_of f m' used n (taken (symbol_rule_of f m n) m used) ≡ entries_judged_of f m used n (taken (symbol_rule_of f m n) m used)
       unfolding entries_judged_of
       entries-alike =
-          cells-alike 6 (λ i. f.entry_at_fault (touches_of f m n) m used (entry_at m i)) (λ i. f.entry_at_fault (touches_of f m' n) m' used (entry_at m' i))
+          cells-alike BadSymbol (λ i. f.entry_at_fault (touches_of f m n) m used (entry_at m i)) (λ i. f.entry_at_fault (touches_of f m' n) m' used (entry_at m' i))
           (entry_at m) (entry_at m') (256 * taken (symbol_rule_of f m n) m used)
           (λ i l. rw (cells-kept symbol-links 4 i l, index-touch) (a.entry (touches_of f m n) (entry_at m i) (entry-low i l)))
           (cells-kept symbol-links 4)
@@ -130,10 +131,10 @@ module _ {used : ℕ} {m m' : List ℕ} (s : SameMap used m m') where
       symbols-alike =
           rw (symbol-rule, taken-same (symbol_rule_of f m n) (omega arith) (omega arith), walked_same (symbol_rule_of f m n) (omega arith) (omega arith), entries-alike)
 
-    after-alike : (w : Walk) → walked (index_rule_of f m) m used ≡ w → after_index_of f m' used w ≡ after_index_of f m used w
+    after-alike : (w : Result ℕ LinkFault) → walked (index_rule_of f m) m used ≡ w → after_index_of f m' used w ≡ after_index_of f m used w
     unfolding after_index_of
-    after-alike (Blocks n) e = rw (symbols-alike e, slots-alike e)
-    after-alike (Fault p n) e = refl
+    after-alike (Ok n) e = rw (symbols-alike e, slots-alike e)
+    after-alike (Err x) e = refl
 
   -- ---- the verdict
 
@@ -154,7 +155,7 @@ module _ {used : ℕ} {m m' : List ℕ} (s : SameMap used m m') where
 
   -- ---- an accepted map, of either layout
 
-  module _ {n : ℕ} (e : verdict m used ≡ Accepted n) where
+  module _ {n : ℕ} (e : verdict m used ≡ Ok n) where
     accepted : HoldsOf (family_of m) m used n
     accepted = verdict-tells m used n e
 

@@ -24,13 +24,13 @@ use Rattle.records.specs.Headers.{index_head, symbol_head, part_of}
 use Rattle.slots.specs.Slots.{slot_of, state_of, bytes_in}
 use Rattle.slots.specs.Objects.{object_of}
 use Rattle.chain.specs.Chains.{place, block, meets_block, walked, inside}
-use Rattle.chain.specs.declared.Walk.TheVariants.{Blocks}
+use Rattle.std.specs.Prelude.{Ok}
 use Rattle.chain.proofs.Chains.{Pass, walked-pass, walked_end, place-suc}
 use Rattle.chain.proofs.Cells.{cell_lies}
 use Rattle.chain.proofs.Frame.{Kept, less, cells-kept, walked-kept}
 use Rattle.judge.specs.Rules.{index_rule, symbol_rule, touches, slot_at, entry_at}
 use Rattle.judge.specs.Judging.{version_of, part_good, is_live, bad_slot, bad_entry}
-use Rattle.judge.proofs.Judging.{size-two, bytes-least}
+use Rattle.judge.proofs.Judging.{size_two, bytes-least}
 use Rattle.accept.proofs.Accepting.{Holds}
 use Rattle.judge.proofs.Telling.{GoodSlot, GoodSymbol, bad-tells, bad-good, bad-dead, entry-tells, entry-good, entry-unused}
 
@@ -40,7 +40,7 @@ pub record Change (m m' : List ℕ) (used used' n n' : ℕ) : Type 0 where
   pub room : used' ≤ length m'
   pub header : (i : ℕ) → i < 48 → (i < 12) ⊎ (16 ≤ i) → get_or m' i 0 ≡ get_or m i 0
   pub rest : (i : ℕ) → 48 ≤ i → i < used → touches m n i 1 ≡ false → get_or m' i 0 ≡ get_or m i 0
-  pub index : walked (index_rule m') m' used' ≡ Blocks n'
+  pub index : walked (index_rule m') m' used' ≡ Ok n'
   pub upto : n ≤ n'
   pub blocks : (k : ℕ) → k < n → block index_head m' k ≡ block index_head m k
   pub new : (k : ℕ) → n ≤ k → k < n' → used ≤ block index_head m' k
@@ -118,7 +118,7 @@ module _ {m m' : List ℕ} {used used' n n' : ℕ} (c : Change m m' used used' n
             first : u32_at m' (place 8 m 0) ≡ u32_at m (place 8 m 0)
             first = unfold place in header-same 4 8 (omega arith) (inl (omega arith))
 
-    symbols-same : walked (symbol_rule m' n') m' used' ≡ Blocks h.symbols
+    symbols-same : walked (symbol_rule m' n') m' used' ≡ Ok h.symbols
     unfolding block
     symbols-same =
         walked-kept
@@ -158,7 +158,7 @@ module _ {m m' : List ℕ} {used used' n n' : ℕ} (c : Change m m' used used' n
             }
           where
             size_same : GoodSymbol (touches m n) m used q → u16_at m' q ≡ u16_at m q
-            size_same g = field-same 2 q (u16_at m q) q g.off g.low g.end (omega arith) (omega (arith, size-two (u16_at m q) g.size))
+            size_same g = field-same 2 q (u16_at m q) q g.off g.low g.end (omega arith) (omega (arith, size_two (u16_at m q) g.size))
 
   -- ---- the slots
 

@@ -19,7 +19,7 @@ use Rattle.records.specs.Headers.{index_head}
 use Rattle.slots.specs.Slots.{slot_of}
 use Rattle.slots.proofs.Slots.{slot-cong}
 use Rattle.chain.specs.Chains.{place, block, meets_block, walked}
-use Rattle.chain.specs.declared.Walk.TheVariants.{Blocks}
+use Rattle.std.specs.Prelude.{Ok}
 use Rattle.chain.proofs.Chains.{Pass, walked-pass, walked_end}
 use Rattle.chain.proofs.Cells.{Lies, cell_lies, cells-apart}
 use Rattle.chain.proofs.Frame.{Kept, less, places-kept, blocks-kept, cells-kept, store_kept, walked-kept}
@@ -42,7 +42,7 @@ module _ {m : List ℕ} {used n : ℕ} (h : Holds m used n) where
 
   -- a map whose header and links read the same has the same index blocks
   pub index_kept : (m' : List ℕ) (used' : ℕ) → used ≤ used' → ((i : ℕ) → 16 ≤ i → i < 48 → get_or m' i 0 ≡ get_or m i 0) → Kept index_head m m' (n + 1)
-      → walked (index_rule m') m' used' ≡ Blocks n
+      → walked (index_rule m') m' used' ≡ Ok n
   index_kept m' used' g same kept =
       walked-kept
       (record {

@@ -18,12 +18,15 @@ use Rattle.numbers.proofs.Below.{any_none, any_false, First, first-is, first-law
 use Rattle.numbers.proofs.Bytes.{get_or-sets-low, get_or-sets-high}
 use Rattle.numbers.proofs.Coordinates.{lt-or-ge}
 use Rattle.records.specs.declared.JournalRecord.{JournalRecord}
+use Rattle.refusals.specs.declared.Refusal.{Refusal}
+use Rattle.refusals.specs.declared.Refusal.TheVariants.{BadJournal}
+use Rattle.std.specs.Prelude.{Result, Ok, Err}
 use Rattle.records.specs.Sizes.{journal_record_size, journal_limit}
 use Rattle.records.specs.Journals.{shape_good, is_unused, record_bytes}
 use Rattle.records.proofs.Journals.{RecordFits, record-cong, record-back, length-record_bytes}
 use Rattle.journal.specs.Journals.{record_in, total, in_use, slot_used, record_good, bad_record, well_formed, holder, is_held, is_full, appended, looked, records_to, records_of}
 use Rattle.journal.specs.declared.JournalLook.{JournalLook}
-use Rattle.journal.specs.declared.JournalLook.TheVariants.{Malformed, Held, New}
+use Rattle.journal.specs.declared.JournalLook.TheVariants.{Held, New}
 use Rattle.journal.proofs.Below.{zero_one, and-tells, none-split}
 use Rattle.journal.proofs.Records.{shape-in-use, in-use-within, in-use-not-unused, not_full, next-bytes, records_to-same}
 
@@ -242,10 +245,10 @@ pub record Sound (jn m : List ℕ) (n e : ℕ) : Type 0 where
   pub number : e ≡ 0 → ⊥
   pub well : well_formed jn m n ≡ true
 
-by-look : (jn m : List ℕ) (n e : ℕ) {A : Type 0} (l : JournalLook) → looked jn m n e ≡ l
-    → (l ≡ Malformed → (e ≡ 0) ⊎ (well_formed jn m n ≡ false) → A)
-    → (Sound jn m n e → is_held jn e ≡ true → l ≡ Held (record_in jn (holder jn e)).kind (record_in jn (holder jn e)).slot → A)
-    → (Sound jn m n e → is_held jn e ≡ false → l ≡ New (in_use jn) → A)
+by-look : (jn m : List ℕ) (n e : ℕ) {A : Type 0} (l : Result JournalLook Refusal) → looked jn m n e ≡ l
+    → (l ≡ Err BadJournal → (e ≡ 0) ⊎ (well_formed jn m n ≡ false) → A)
+    → (Sound jn m n e → is_held jn e ≡ true → l ≡ Ok (Held (record_in jn (holder jn e)).kind (record_in jn (holder jn e)).slot) → A)
+    → (Sound jn m n e → is_held jn e ≡ false → l ≡ Ok (New (in_use jn)) → A)
     → A
 unfolding looked
 by-look jn m n e {A} l q bad held new = go (eqb e 0) refl (well_formed jn m n) refl (is_held jn e) refl
@@ -256,11 +259,11 @@ by-look jn m n e {A} l q bad held new = go (eqb e 0) refl (well_formed jn m n) r
     go false f true g true h = held (record { number = eqb-false e 0 f; well = g }) h (sym q ∙ rw (f, g, h))
     go false f true g false h = new (record { number = eqb-false e 0 f; well = g }) h (sym q ∙ rw (f, g, h))
 
-pub looked-held : (jn m : List ℕ) (n e kind slot : ℕ) → looked jn m n e ≡ Held kind slot
+pub looked-held : (jn m : List ℕ) (n e kind slot : ℕ) → looked jn m n e ≡ Ok (Held kind slot)
     → Sound jn m n e × (is_held jn e ≡ true) × (kind ≡ (record_in jn (holder jn e)).kind) × (slot ≡ (record_in jn (holder jn e)).slot)
 looked-held jn m n e kind slot q =
-    by-look jn m n e (Held kind slot) q (λ p h. zero_one (cc)) (λ s h p. (s, h, (cc), (cc))) (λ s h p. zero_one (cc))
+    by-look jn m n e (Ok (Held kind slot)) q (λ p h. zero_one (cc)) (λ s h p. (s, h, (cc), (cc))) (λ s h p. zero_one (cc))
 
-pub looked-new : (jn m : List ℕ) (n e used : ℕ) → looked jn m n e ≡ New used → Sound jn m n e × (is_held jn e ≡ false) × (used ≡ in_use jn)
+pub looked-new : (jn m : List ℕ) (n e used : ℕ) → looked jn m n e ≡ Ok (New used) → Sound jn m n e × (is_held jn e ≡ false) × (used ≡ in_use jn)
 looked-new jn m n e used q =
-    by-look jn m n e (New used) q (λ p h. zero_one (cc)) (λ s h p. zero_one (cc)) (λ s h p. (s, h, (cc)))
+    by-look jn m n e (Ok (New used)) q (λ p h. zero_one (cc)) (λ s h p. zero_one (cc)) (λ s h p. (s, h, (cc)))

@@ -18,7 +18,7 @@ use Rattle.numbers.proofs.Below.{any_at, any_none}
 use Rattle.numbers.proofs.Coordinates.{lt-or-ge}
 use Rattle.records.specs.Sizes.{journal_record_size}
 use Rattle.journal.specs.Journals.{record_in}
-use Rattle.journal.specs.Trees.{bits_of, link_of, Down, Linked, Comes}
+use Rattle.journal.specs.Trees.{bits_of, link_of, Down, Linked, Planted, Comes}
 
 -- a number of 32 bits, spread over b trees
 pub spread-below : (b e : ℕ) → 0 < b → e % 4294967296 * b < b * 4294967296
@@ -40,6 +40,10 @@ down-within {b} {jn} {l} {i} {e} {at} z t w = rw w.stands (go w.steps w.links)
     go : (d : ℕ) → ((c : ℕ) → c < d → 0 < get_or l (link_of b l e c) 0) → link_of b l e d < b + 2 * i
     go zero h = omega (arith, root_below b l e z)
     go (suc d) h = omega (arith, step-within b l e d, h d (omega arith), t.within (link_of b l e d))
+
+-- so it comes down to one of the links
+pub planted_within : {jn l : List ℕ} {e at : ℕ} → Planted jn l → Down (length l / 2) l e at → at < length l
+planted_within p w = omega (arith, down-within (omega (arith, p.some)) p.trees.1 w, p.trees.1.room)
 
 -- number e has come down to `at`, with so many bits left, past records of other numbers
 pub record Going (b : ℕ) (jn l : List ℕ) (e bits at : ℕ) : Type 0 where

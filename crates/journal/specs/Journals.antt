@@ -10,12 +10,12 @@
 --     holder j e              the record in use that holds edit number e, or in_use j where there is none
 --     is_held j e, is_full j    whether e is held; whether no record is unused
 --     appended j r            the journal with record r at the first unused place
---     looked j m n e          what a look into the journal for edit number e answers: malformed (also for number 0), or held, with kind and slot, or new, with
---                             the number of records in use
+--     looked j m n e          what a look into the journal for edit number e answers: held, with kind and slot, or new, with the number of records in use. It
+--                             is refused where the journal is malformed, or the number 0
 -- The same journal as a list, for a reader; no contract cites it:
 --     records_to j k           the first k records in their order
 --     records_of j             the records in use in their order
-use Rattle.std.specs.Prelude.{ℕ, zero, suc, ◌*◌, ◌/◌, ◌%◌, Bool, not, cond, ◌&&◌, List, [], ◌∷◌, ◌++◌, eqb, leb, ltb, length}
+use Rattle.std.specs.Prelude.{ℕ, zero, suc, ◌*◌, ◌/◌, ◌%◌, Bool, not, cond, ◌&&◌, List, [], ◌∷◌, ◌++◌, eqb, leb, ltb, length, Result, Ok, Err}
 use Rattle.std.proofs.lemmas.List.Edits.{sets}
 use Rattle.numbers.specs.Below.{any, first}
 use Rattle.records.specs.declared.JournalRecord.{JournalRecord}
@@ -24,7 +24,9 @@ use Rattle.slots.specs.Slots.{slot_of}
 use Rattle.records.specs.Journals.{record_of, record_bytes, shape_good, is_unused}
 use Rattle.judge.specs.Rules.{slot_at}
 use Rattle.journal.specs.declared.JournalLook.{JournalLook}
-use Rattle.journal.specs.declared.JournalLook.TheVariants.{Malformed, Held, New}
+use Rattle.journal.specs.declared.JournalLook.TheVariants.{Held, New}
+use Rattle.refusals.specs.declared.Refusal.{Refusal}
+use Rattle.refusals.specs.declared.Refusal.TheVariants.{BadJournal}
 
 unfoldable pub record_in : List ℕ → ℕ → JournalRecord
 record_in j i = record_of j (journal_record_size * i)
@@ -62,11 +64,11 @@ is_full j = eqb (in_use j) (total j)
 unfoldable pub appended : List ℕ → JournalRecord → List ℕ
 appended j r = sets j (journal_record_size * in_use j) (record_bytes r)
 
-unfoldable pub looked : List ℕ → List ℕ → ℕ → ℕ → JournalLook
+unfoldable pub looked : List ℕ → List ℕ → ℕ → ℕ → Result JournalLook Refusal
 looked j m n e =
     cond (not (eqb e 0) && well_formed j m n)
-    (cond (is_held j e) (Held (record_in j (holder j e)).kind (record_in j (holder j e)).slot) (New (in_use j)))
-    Malformed
+    (Ok (cond (is_held j e) (Held (record_in j (holder j e)).kind (record_in j (holder j e)).slot) (New (in_use j))))
+    (Err BadJournal)
 
 unfoldable pub records_to : List ℕ → ℕ → List JournalRecord
 records_to j zero = []

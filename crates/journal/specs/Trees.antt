@@ -5,6 +5,7 @@
 --     link_of b l e d       the link at which number e stands after d steps down
 --     Down b l e at        number e comes down to link `at`, by links that are not 0
 --     Linked b j l i       the first i records are in the trees: each one's number comes down to its link, and the links below a record lead to later ones
+--     Planted j l          some records are in trees of which the first half of the links are the roots
 --     Comes b j l e at     number e comes down to `at` past records of other numbers, and `at` is 0 or leads to a record that has it
 use Rattle.std.specs.Prelude.{ℕ, zero, suc, ◌+◌, ◌-◌, ◌*◌, ◌/◌, ◌%◌, ◌≤◌, ◌<◌, List, ◌≡◌, length, get_or}
 use Rattle.records.specs.Sizes.{journal_record_size}
@@ -29,6 +30,11 @@ pub record Linked (b : ℕ) (j l : List ℕ) (i : ℕ) : Type 0 where
   pub within : (at : ℕ) → get_or l at 0 ≤ i
   pub rises : (at : ℕ) → 0 < get_or l at 0 → at < b + 2 * (get_or l at 0 - 1)
   pub leads : (k : ℕ) → k < i → (at : ℕ) × Down b l (record_in j k).number at × (get_or l at 0 ≡ k + 1)
+
+pub record Planted (j l : List ℕ) : Type 0 where
+  pub some : 2 ≤ length l
+  pub most : length l ≤ 131072
+  pub trees : (i : ℕ) × Linked (length l / 2) j l i
 
 pub record Comes (b : ℕ) (j l : List ℕ) (e at : ℕ) : Type 0 where
   pub down : Down b l e at

@@ -1,7 +1,7 @@
 // A journal of done edits: whether it is well formed for a map, the edit number looked up, the next record. Nothing here knows how a map is edited.
 #![tactic(auto)]
 
-ghost use Rattle.std.specs.Prelude.{◌≡◌, not, ◌&&◌, List, ℕ, ◌+◌, ◌*◌, ◌%◌, ◌≤◌, ◌<◌, ltb, length};
+ghost use Rattle.std.specs.Prelude.{◌≡◌, not, ◌&&◌, List, ℕ, ◌+◌, ◌*◌, ◌/◌, ◌%◌, ◌≤◌, ◌<◌, ltb, length};
 ghost use Rattle.numbers.specs.Below.{any};
 ghost use Rattle.records.specs.Sizes.{journal_record_size, journal_limit, block_cells};
 ghost use Rattle.records.specs.Headers.{index_head};
@@ -10,27 +10,29 @@ ghost use Rattle.chain.specs.Tables.{Empty, Ordered};
 ghost use Rattle.judge.specs.Rules.{slot_at};
 ghost use Rattle.journal.specs.Journals.{record_in, total, in_use, slot_used, is_full, appended, looked};
 ghost use Rattle.journal.specs.Passes.{judged, Reach};
-ghost use Rattle.journal.specs.Trees.{bits_of, Linked, Comes};
+ghost use Rattle.journal.specs.Trees.{bits_of, Planted, Comes};
 
 use records::JournalRecord;
+use refusals::Refusal;
 use slots::{IndexBlock, Slot};
 
-// What a look into a journal for an edit number answers. `used` is the number of records in use.
-#[derive(Clone, Copy)]
+// What a look into a journal for an edit number answers. `used` is the number of records in use. `kind` is the number as the record has it: it is compared and
+// no more, and as an `EditKind` it would be decoded once more, with a refusal for a number that no good record has.
+#[derive(Clone, Copy, Debug, PartialEq, Eq)]
 pub enum JournalLook {
-    Malformed,
     Held { kind: u32, slot: u32 },
     New { used: usize },
 }
 
-// What the pass over the records in use answers: one is not good; or how many they are, and the one that holds the edit number, all zero where none does.
+// What the pass over the records in use answers where each is good: how many they are, and which of them holds the edit number.
 #[derive(Clone, Copy)]
-pub enum JudgedJournal {
-    Bad,
-    Good { used: usize, held: JournalRecord },
+struct UsedRecords {
+    used: usize,
+    held: Option<usize>,
 }
 
 // Record i of a journal.
+#[tactic(auto, unfolding(crate::specs::Journals::record_in))]
 fn record_in(j: &[u8], i: usize) -> JournalRecord
     requires { journal_record_size * i + journal_record_size ≤ length j.now }
     ensures { result ≡ record_in j.now i }
@@ -47,20 +49,27 @@ pub fn place_of(order: &[u32], s: usize) -> usize
     b.slot(s % IndexBlock::SLOTS)
 }
 
-// Whether slot s exists and is not free.
-fn slot_used(m: &[u8], order: &[u32], n: usize, s: u32) -> bool
-    requires { Reach m.now order.now n }
-    ensures { result ≡ slot_used m.now n s }
-{
-    let number = s as usize;
-    if IndexBlock::SLOTS * n <= number {
-        return false;
+// The slots of a map, found by its index blocks in their order.
+#[derive(Clone, Copy)]
+pub struct MapSlots<'a> {
+    pub map: &'a [u8],
+    pub order: &'a [u32],
+    pub ghost reach: { Reach map.now order.now },
+}
+
+impl MapSlots<'_> {
+    // Whether slot s exists and is not free.
+    fn is_used(&self, s: u32) -> bool
+        ensures { result ≡ slot_used self.now.map.now (length self.now.order.now) s }
+    {
+        let number = s as usize;
+        number < IndexBlock::SLOTS * self.order.len()
+            && Slot::at(self.map, place_of(self.order, number)).len != 0
     }
-    let t = Slot::at(m, place_of(order, number));
-    t.len != 0
 }
 
 // The spread of a number over so many trees: its whole part, over 4,294,967,296, is the tree. In the rest near numbers lie far apart.
+#[tactic(auto, unfolding(crate::specs::Trees::bits_of))]
 fn spread(number: u32, trees: usize) -> u64
     requires { (0 < trees) × (trees ≤ 65536) }
     ensures { result ≡ bits_of trees number 0 }
@@ -69,17 +78,16 @@ fn spread(number: u32, trees: usize) -> u64
 }
 
 // The link that a number comes to: that of the record which has it, or one that leads to none. It goes down its tree from the root, at each record to the
-// first or the second link below by the next bit of its spread.
-fn link_for(j: &[u8], links: &[u16], trees: usize, number: u32) -> usize
-    requires { (0 < trees) × (trees ≤ 65536) × ((i : ℕ) × Linked trees j.now links.now i) }
-    ensures { Comes trees j.now links.now number result }
+// first or the second link below by the next bit of its spread: how deep, no range tells.
+fn link_for(j: &[u8], links: &[u16], number: u32) -> usize
+    requires { Planted j.now links.now }
+    ensures { Comes (length links.now / 2) j.now links.now number result }
 {
+    let trees = links.len() / 2;
     let mut bits = spread(number, trees);
     let mut at = (bits / 4294967296) as usize;
-    while links[at] != 0 {
-        let k = links[at] as usize - 1;
-        let r = record_in(j, k);
-        if r.number == number {
+    while let Some(k) = (links[at] as usize).checked_sub(1) {
+        if record_in(j, k).number == number {
             return at;
         }
         bits = bits % 4294967296 * 2;
@@ -88,70 +96,74 @@ fn link_for(j: &[u8], links: &[u16], trees: usize, number: u32) -> usize
     at
 }
 
-// The records in use, judged in one pass. They are put in trees, by their numbers: first among the links are the roots, then two for each record. A link is
-// 0, or counts records from 1. The links are lent, all 0.
+// The records in use, judged in one pass. They are put in trees, by their numbers: the first half of the links are the roots, then come two for each record.
+// A link is 0, or counts records from 1: as an Option of a number it would take twice the room. The links are lent, all 0.
 fn judge_records(
     j: &[u8],
-    m: &[u8],
-    order: &[u32],
-    n: usize,
+    slots: MapSlots,
     e: u32,
     links: &mut [u16],
-    trees: usize,
-) -> JudgedJournal
-    requires { (length j.now ≤ journal_limit) × Reach m.now order.now n × (0 < trees) × (trees ≤ 65536) × Empty links.old
-        × (trees + 2 * total j.now ≤ length links.old) }
-    ensures { result ≡ judged j.now m.now n e }
+) -> Result<UsedRecords, Refusal>
+    requires { (length j.now ≤ journal_limit) × Empty links.old
+        × (2 ≤ length links.old) × (length links.old ≤ 131072) × (4 * total j.now ≤ length links.old) }
+    ensures { result ≡ judged j.now slots.entry.map.now (length slots.entry.order.now) e }
 {
+    let mut held = None;
     let all = j.len() / JournalRecord::SIZE;
-    let mut held = JournalRecord::new(0, 0, 0);
-    let mut i = 0;
-    while i < all {
+    for i in 0..all {
         let r = record_in(j, i);
         if r.is_unused() {
-            return JudgedJournal::Good { used: i, held };
+            return Ok(UsedRecords { used: i, held });
         }
-        if !r.shape_good() {
-            return JudgedJournal::Bad;
+        if !r.shape_good() || !slots.is_used(r.slot) {
+            return Err(Refusal::BadJournal);
         }
-        if !slot_used(m, order, n, r.slot) {
-            return JudgedJournal::Bad;
+        let at = link_for(j, links, r.number);
+        let link = &mut links[at];
+        if *link != 0 {
+            return Err(Refusal::BadJournal);
         }
-        let at = link_for(j, links, trees, r.number);
-        if links[at] != 0 {
-            return JudgedJournal::Bad;
-        }
-        links[at] = (i + 1) as u16;
+        *link = (i + 1) as u16;
         if r.number == e {
-            held = r;
+            held = Some(i);
         }
-        i += 1;
     }
-    JudgedJournal::Good { used: i, held }
+    Ok(UsedRecords { used: all, held })
 }
 
-// A journal with room for so few records, for so many, or for as many as a journal can have.
-const FEW: usize = 64;
+// The links that a journal needs with room for at most 64 records, for at most 512, and for as many as a journal can have: two trees and two links for each.
+const FEW: usize = 256;
 
-const SOME: usize = 512;
+const SOME: usize = 2048;
 
-const MOST: usize = JournalRecord::LIMIT / JournalRecord::SIZE;
+const MOST: usize = 16384;
 
-// The records in use, judged with links as many as the journal needs: two trees and two links for each record.
-fn judge_journal(j: &[u8], m: &[u8], order: &[u32], n: usize, e: u32) -> JudgedJournal
-    requires { (length j.now ≤ journal_limit) × Reach m.now order.now n }
-    ensures { result ≡ judged j.now m.now n e }
+// The records in use, judged with so many links. They stand in this function alone: so a journal with few records fills no more than its own.
+fn judge_with_links<const LINKS: usize>(
+    j: &[u8],
+    slots: MapSlots,
+    e: u32,
+) -> Result<UsedRecords, Refusal>
+    requires { (length j.now ≤ journal_limit) × (2 ≤ LINKS) × (LINKS ≤ 131072) × (4 * total j.now ≤ LINKS) }
+    ensures { result ≡ judged j.now slots.entry.map.now (length slots.entry.order.now) e }
 {
-    if j.len() <= JournalRecord::SIZE * FEW {
-        let mut links = [0u16; 4 * FEW];
-        return judge_records(j, m, order, n, e, &mut links, 2 * FEW);
+    let mut links = [0u16; LINKS];
+    judge_records(j, slots, e, &mut links)
+}
+
+// The records in use, judged with links as many as the journal needs.
+fn judge_journal(j: &[u8], slots: MapSlots, e: u32) -> Result<UsedRecords, Refusal>
+    requires { (length j.now ≤ journal_limit) }
+    ensures { result ≡ judged j.now slots.entry.map.now (length slots.entry.order.now) e }
+{
+    let needed = 4 * (j.len() / JournalRecord::SIZE);
+    if needed <= FEW {
+        judge_with_links::<FEW>(j, slots, e)
+    } else if needed <= SOME {
+        judge_with_links::<SOME>(j, slots, e)
+    } else {
+        judge_with_links::<MOST>(j, slots, e)
     }
-    if j.len() <= JournalRecord::SIZE * SOME {
-        let mut links = [0u16; 4 * SOME];
-        return judge_records(j, m, order, n, e, &mut links, 2 * SOME);
-    }
-    let mut links = [0u16; 4 * MOST];
-    judge_records(j, m, order, n, e, &mut links, 2 * MOST)
 }
 
 // Whether the records from k on are all zero.
@@ -162,39 +174,31 @@ fn rest_unused(j: &[u8], k: usize) -> bool
     numbers::all_zero(j, JournalRecord::SIZE * k)
 }
 
-// A look into the journal for an edit number. The map has n index blocks, whose order is lent.
-pub fn look_up(j: &[u8], m: &[u8], order: &[u32], n: usize, e: u32) -> JournalLook
-    requires { Reach m.now order.now n }
-    ensures { result ≡ looked j.now m.now n e }
+// A look into the journal for an edit number. A malformed journal is refused, and so is edit number 0.
+pub fn look_up(j: &[u8], slots: MapSlots, e: u32) -> Result<JournalLook, Refusal>
+    ensures { result ≡ looked j.now slots.entry.map.now (length slots.entry.order.now) e }
 {
-    if e == 0 {
-        return JournalLook::Malformed;
+    if e == 0 || j.len() > JournalRecord::LIMIT || j.len() % JournalRecord::SIZE != 0 {
+        return Err(Refusal::BadJournal);
     }
-    if JournalRecord::LIMIT < j.len() {
-        return JournalLook::Malformed;
+    let UsedRecords { used, held } = judge_journal(j, slots, e)?;
+    if !rest_unused(j, used) {
+        return Err(Refusal::BadJournal);
     }
-    if j.len() % JournalRecord::SIZE != 0 {
-        return JournalLook::Malformed;
-    }
-    let records = judge_journal(j, m, order, n, e);
-    match records {
-        JudgedJournal::Bad => JournalLook::Malformed,
-        JudgedJournal::Good { used, held } => {
-            if !rest_unused(j, used) {
-                return JournalLook::Malformed;
-            }
-            if held.number != e {
-                return JournalLook::New { used };
-            }
+    Ok(match held {
+        Some(k) => {
+            let r = record_in(j, k);
             JournalLook::Held {
-                kind: held.kind,
-                slot: held.slot,
+                kind: r.kind,
+                slot: r.slot,
             }
         }
-    }
+        None => JournalLook::New { used },
+    })
 }
 
 // Whether no record is unused, of which k are in use.
+#[tactic(auto, unfolding(crate::specs::Journals::is_full))]
 pub fn is_full(j: &[u8], k: usize) -> bool
     requires { k ≡ in_use j.now }
     ensures { result ≡ is_full j.now }

@@ -68,8 +68,8 @@ bytes_most v len = go (eqb v 8)
     go false = omega arith
 
 -- a Size that is good is two bytes at least
-pub size-two : (n : ℕ) → size_good n ≡ true → 2 ≤ n
-size-two n e = ⊎_elim (λ l. absurd (never (sym e ∙ size_small n l))) (λ l. omega arith) (lt-or-ge n 348)
+pub size_two : (n : ℕ) → size_good n ≡ true → 2 ≤ n
+size_two n e = ⊎_elim (λ l. absurd (never (sym e ∙ size_small n l))) (λ l. omega arith) (lt-or-ge n 348)
 
 -- the bytes of an object tell its pairs
 bytes-pairs : (v len : ℕ) → len_good v len ≡ true → bytes_in v len ≡ 32 + 8 * pairs_of v len
@@ -81,9 +81,9 @@ bytes-pairs v len g = go (eqb v 8) g
     go false e = let a = (and-eq-true_iff (leb 40 len) (eqb ((len - 32) % 8) 0)).0 e in omega (arith, leb-true 40 len a.0, eqb-true ((len - 32) % 8) 0 a.1)
 
 -- an object whose bytes lie in the range has room for its header
-pub in-range : (n : ℕ) → bytes_in_range n ≡ true → (object_header_size ≤ n) × (n ≤ object_most)
+pub in_range : (n : ℕ) → bytes_in_range n ≡ true → (object_header_size ≤ n) × (n ≤ object_most)
 unfolding bytes_in_range
-in-range n e = let a = (and-eq-true_iff (leb 40 n) (leb n 262176)).0 e in (omega (arith, leb-true 40 n a.0), leb-true n 262176 a.1)
+in_range n e = let a = (and-eq-true_iff (leb 40 n) (leb n 262176)).0 e in (omega (arith, leb-true 40 n a.0), leb-true n 262176 a.1)
 
 -- one whose bytes are out of the range has a Len that is not allowed
 pub out_of_range : (v len : ℕ) → (len ≡ 0 → ⊥) → len < 65536 → bytes_in_range (bytes_in v len) ≡ false → len_good v len ≡ false
@@ -98,6 +98,8 @@ out_of_range v len ne l r = go (eqb v 8) r
         (λ h. rw (lt-leb 40 len h))
         (λ h. absurd (never (rw (le-leb 40 len h, le-leb len 262176 (omega arith)) at f)))
         (lt-or-ge len 40)
+
+pub ruleset range_laws = (in_range, out_of_range)
 
 -- and in the range they are those of whole pairs only where its Len is allowed
 bytes_whole : (v len k : ℕ) → bytes_in_range (bytes_in v len) ≡ true → 32 + 8 * k ≡ bytes_in v len → len_good v len ≡ true
@@ -114,8 +116,8 @@ bytes_whole v len k r e = go (eqb v 8) r e
         (and-eq-true_iff (leb 40 len) (eqb ((len - 32) % 8) 0)).1 (a.0, eq-eqb ((len - 32) % 8) 0 (omega (arith, h)))
 
 -- so the test of the bytes is the test whether Len is allowed and the pairs are so many
-pub pairs-by-bytes : (v len k : ℕ) → bytes_in_range (bytes_in v len) ≡ true → eqb (32 + 8 * k) (bytes_in v len) ≡ len_good v len && eqb k (pairs_of v len)
-pairs-by-bytes v len k r = go (len_good v len) refl
+pub pairs_by_bytes : (v len k : ℕ) → bytes_in_range (bytes_in v len) ≡ true → eqb (32 + 8 * k) (bytes_in v len) ≡ len_good v len && eqb k (pairs_of v len)
+pairs_by_bytes v len k r = go (len_good v len) refl
   where
     go : (b : Bool) → len_good v len ≡ b → eqb (32 + 8 * k) (bytes_in v len) ≡ b && eqb k (pairs_of v len)
     go true g =

@@ -10,10 +10,10 @@ use Rattle.numbers.specs.Bytes.{Bytes}
 use Rattle.numbers.proofs.Bytes.{le_at-lt}
 use Rattle.records.specs.declared.Header.{Header}
 use Rattle.records.specs.Sizes.{header_size, map_limit, index_block_size, wide_block_size, wide_slot_size, index_page, most_blocks, symbol_block_size, symbol_page}
-use Rattle.records.specs.Headers.{header_of, setup_at, info_at, index_head, symbol_head, is_wide}
+use Rattle.records.specs.Headers.{header_of, index_head, symbol_head, is_wide}
 use Rattle.chain.specs.declared.Kind.{Kind}
-use Rattle.chain.specs.declared.Walk.{Walk}
-use Rattle.chain.specs.declared.Walk.TheVariants.{Fault}
+use Rattle.std.specs.Prelude.{Result, Err}
+use Rattle.chain.specs.declared.LinkFault.{LinkFault}
 use Rattle.chain.specs.Chains.{Rule, place, walked, taken}
 use Rattle.chain.specs.Tables.{Empty, Placed, Table, EndsTable, kind_rule, Ready}
 use Rattle.chain.proofs.Chains.{Pass, few, fault-tells}
@@ -22,7 +22,7 @@ use Rattle.chain.proofs.Filled.{empty-filled}
 use Rattle.chain.specs.Indexed.{Indexed}
 use Rattle.judge.specs.Judging.{version_of}
 use Rattle.judge.specs.Rules.{Family, family_for, family_of, index_rule_of, symbol_rule_of}
-use Rattle.judge.specs.Kinds.{part_size, index_kind, symbol_kind}
+use Rattle.judge.specs.Kinds.{index_kind, symbol_kind}
 use Rattle.judge.proofs.Judging.{same-touch}
 
 -- ---- the two layouts
@@ -60,10 +60,6 @@ pub most-blocks : (b : Bool) {m : List ℕ} {used n : ℕ} → Pass (index_rule_
 most-blocks true h l = omega (arith, few h (omega arith))
 most-blocks false h l = omega (arith, few h (omega arith))
 
-part-fits : (b : Bool) (n : ℕ) → n < 4294967296 → part_size b n < 4294967296
-part-fits true n l = omega arith
-part-fits false n l = l
-
 module _ (m : List ℕ) (none : List ℕ) (g : Empty none) where
   index-rule-in : (b : Bool) → is_wide (version_of m) ≡ b → kind_rule (index_kind (header_of m)) none ≡ index_rule_of (family_of m) m
   unfolding header_of
@@ -89,10 +85,6 @@ module _ (m : List ℕ) {h : Header} {k : Kind} (e : h ≡ header_of m) (f : k �
           most = most;
           block-least = omega (arith, s.least);
           block-most = omega (arith, s.most);
-          first_fits = le_at-lt 4 m setup_at b;
-          first-size-fits = part-fits w _ (le_at-lt 4 m 20 b);
-          second_fits = le_at-lt 4 m info_at b;
-          second-size-fits = part-fits w _ (le_at-lt 4 m 28 b);
           other-least = omega arith;
           other-most = omega arith;
           other-page = omega arith;
@@ -123,10 +115,6 @@ module _ (f : Family) {k : Kind} (e : k ≡ symbol_kind f) where
           most = indexed.limit;
           block-least = omega arith;
           block-most = omega arith;
-          first_fits = omega arith;
-          first-size-fits = omega arith;
-          second_fits = omega arith;
-          second-size-fits = omega arith;
           other-least = omega (arith, s.least);
           other-most = omega (arith, s.most);
           other-page = omega (arith, s.page-least);
@@ -142,7 +130,7 @@ module _ (f : Family) {k : Kind} (e : k ≡ symbol_kind f) where
 
 -- ---- what a walk answers, by the rule that its kind is
 
-pub walk-by : {r s : Rule} {m : List ℕ} (used : ℕ) {w : Walk} {a b : ℕ} {t : List ℕ} → r ≡ s → a ≡ b → (w ≡ walked r m used) × Placed a t × Table r.head a m (taken r m used) t → (walked s m used ≡ w) × Placed b t × Table s.head b m (taken s m used) t
+pub walk-by : {r s : Rule} {m : List ℕ} (used : ℕ) {w : Result ℕ LinkFault} {a b : ℕ} {t : List ℕ} → r ≡ s → a ≡ b → (w ≡ walked r m used) × Placed a t × Table r.head a m (taken r m used) t → (walked s m used ≡ w) × Placed b t × Table s.head b m (taken s m used) t
 walk-by {m} used {w} {a} {t} e f h =
     rw f at (subst (λ (q : Rule). (walked q m used ≡ w) × Placed a t × Table q.head a m (taken q m used) t) e (sym h.0, h.1, h.2))
 
@@ -153,5 +141,5 @@ unfolding place
 place-fits h m zero b l = l
 place-fits h m (suc k) b l = le_at-lt 4 m (place h m k) b
 
-pub fault-fits : (r : Rule) (m : List ℕ) (used : ℕ) {p k : ℕ} → Bytes m → r.head < 4294967296 → walked r m used ≡ Fault p k → p < 4294967296
+pub fault-fits : (r : Rule) (m : List ℕ) (used : ℕ) {p k : ℕ} → Bytes m → r.head < 4294967296 → walked r m used ≡ Err (record { place = p; taken = k }) → p < 4294967296
 fault-fits r m used {p} {k} b l e = rw (fault-tells r m used e).1 at (place-fits r.head m k b l)

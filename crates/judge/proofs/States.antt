@@ -1,7 +1,7 @@
 -- The laws of a slot's state, by its Len and Sym, and of a slot at fault, by its fields. Assumes nothing.
 use Prim.Native.Nat.{ℕ, ◌+◌}
-use mathlib.Core.Bool.{Bool, true, false}
-use mathlib.Core.Path.{◌≡◌, refl, sym, ◌∙◌}
+use mathlib.Core.Bool.{Bool, true, false, not, cond}
+use mathlib.Core.Path.{◌≡◌, refl, sym, ap, ◌∙◌}
 use mathlib.Core.List.{List}
 use lib.Dec.{eqb}
 use borrow.Author.Tests.{eq-eqb, ne_eqb}
@@ -12,11 +12,6 @@ use Rattle.slots.specs.declared.State.{State}
 use Rattle.slots.specs.declared.State.TheVariants.{Free, Erased, Live}
 use Rattle.slots.specs.Slots.{slot_of, state_of, same_state}
 use Rattle.judge.specs.Judging.{slot_good, is_live, bad_slot, no_len}
-use Prim.Native.Nat.{ℕ, ◌+◌}
-use mathlib.Core.Bool.{Bool, true, false, not}
-use mathlib.Core.Path.{◌≡◌, refl, sym, ap, ◌∙◌}
-use borrow.Author.Tests.{eq-eqb, ne_eqb}
-use lib.Dec.{eqb}
 
 pub state-live : (t : Slot) → (t.len ≡ 0 → ⊥) → (t.sym ≡ 0 → ⊥) → state_of t ≡ Live
 unfolding state_of
@@ -38,6 +33,19 @@ pub same_live : (k : State) → same_state Live k ≡ true → is_live k ≡ tru
 same_live Free e = e
 same_live Erased e = e
 same_live Live e = e
+
+-- whether a slot is live, by its fields as they are tested
+pub live_none : (t : Slot) → t.len ≡ 0 → same_state Live (state_of t) ≡ false
+unfolding state_of
+live_none t e = rw (eq-eqb t.len 0 e)
+
+pub live_some : (t : Slot) → (t.len ≡ 0 → ⊥) → same_state Live (state_of t) ≡ not (eqb t.sym 0)
+unfolding state_of
+live_some t e = rw (ne_eqb t.len 0 e) (go (eqb t.sym 0))
+  where
+    go : (b : Bool) → same_state Live (cond b Erased Live) ≡ not b
+    go true = refl
+    go false = refl
 
 -- a slot that is live or erased has a Len
 pub len-some : (k : State) (t : Slot) → same_state k (state_of t) ≡ true → (k ≡ Free → ⊥) → t.len ≡ 0 → ⊥
@@ -62,10 +70,14 @@ module _ (touch : ℕ → ℕ → Bool) (m : List ℕ) (used v p : ℕ) {t : Slo
   unfolding bad_slot slot_of state_of
   fault-free z = rw (no-len m p e z)
 
-  pub fault-erased : (t.len ≡ 0 → ⊥) → t.sym ≡ 0 → bad_slot touch m used v p ≡ false
+  pub fault_erased : (t.len ≡ 0 → ⊥) → t.sym ≡ 0 → bad_slot touch m used v p ≡ false
   unfolding bad_slot slot_of state_of
-  fault-erased z y = rw (has-len m p e z, eq-eqb (u16_at m (p + 22)) 0 (sym (ap (λ (x : Slot). x.sym) e) ∙ y))
+  fault_erased z y = rw (has-len m p e z, eq-eqb (u16_at m (p + 22)) 0 (sym (ap (λ (x : Slot). x.sym) e) ∙ y))
 
-  pub fault-live : (t.len ≡ 0 → ⊥) → (t.sym ≡ 0 → ⊥) → bad_slot touch m used v p ≡ not (slot_good touch m used v t)
+  pub fault_live : (t.len ≡ 0 → ⊥) → (t.sym ≡ 0 → ⊥) → bad_slot touch m used v p ≡ not (slot_good touch m used v t)
   unfolding bad_slot slot_of state_of
-  fault-live z y = rw (has-len m p e z, ne_eqb (u16_at m (p + 22)) 0 (λ g. y (ap (λ (x : Slot). x.sym) e ∙ g)), e)
+  fault_live z y = rw (has-len m p e z, ne_eqb (u16_at m (p + 22)) 0 (λ g. y (ap (λ (x : Slot). x.sym) e ∙ g)), e)
+
+-- a slot with no Len is not at fault
+pub fault_none : (touch : ℕ → ℕ → Bool) (m : List ℕ) (used v p : ℕ) → (slot_of m p).len ≡ 0 → bad_slot touch m used v p ≡ false
+fault_none touch m used v p e = fault-free touch m used v p refl e

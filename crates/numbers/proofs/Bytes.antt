@@ -7,8 +7,9 @@ use Prim.Native.Nat.{ℕ, zero, suc, ◌+◌, ◌*◌, ◌/◌, ◌%◌, ◌^◌
 use native.Mathlib.Nat.{add-zero, zero-add, add-suc, suc-add, add_assoc, pow-succ', not-suc-le-zero, mul_assoc}
 use native.Mathlib.Decide.{ℕ_discrete}
 use native.Mathlib.Omega.{arith}
-use lib.Seq.{get_or-drop, get_or-take, get_or-append-add, sets, sets-eq, get_or-set_other, get_or-set_same, drop-set-add, take-set-lt, drop-set-lt, take-set-le}
+use lib.Seq.{drop-drop, get_or-drop, get_or-take, get_or-append-add, sets, sets-eq, get_or-set_other, get_or-set_same, drop-set-add, take-set-lt, drop-set-lt, take-set-le}
 use lib.ListN.{length, get_or, take, drop, set, length-set, take-append-drop, get_or-append}
+use Rattle.std.specs.Int.{w16, w32, to_le_bytes}
 use Rattle.numbers.specs.Bytes.{Bytes, le_at, bytes_of, Zeros}
 
 -- ---- reading
@@ -149,6 +150,26 @@ le_at-field n v p q h =
 pub sets-splice : (vs xs : List ℕ) (at : ℕ) → at + length vs ≤ length xs → sets xs at vs ≡ take at xs ++ (vs ++ drop (at + length vs) xs)
 sets-splice vs xs at h = sets-eq vs xs at h ∙ append_assoc (take at xs) vs (drop (at + length vs) xs)
 
+-- the part from a on is written over, as `copy_from_slice` and `fill` do it: ys is what it holds then
+pub sets-part : (xs ys vs : List ℕ) (a k : ℕ) → ys ≡ vs → k ≡ length vs → a + length vs ≤ length xs → take a xs ++ (ys ++ drop k (drop a xs)) ≡ sets xs a vs
+sets-part xs ys vs a k e l h = rw (e, l, drop-drop (length vs) a xs, sets-splice vs xs a h)
+
+-- the same of a part at the front
+pub sets-front : (xs ys vs : List ℕ) (k : ℕ) → ys ≡ vs → k ≡ length vs → k ≤ length xs → ys ++ drop k xs ≡ sets xs 0 vs
+sets-front xs ys vs k e l h = rw (e, l, sets-splice vs xs 0 (omega arith), zero-add)
+
+-- the bytes of a number, as the machine's method gives them
+pub bytes_of-two : (v : ℕ) → to_le_bytes w16 v ≡ bytes_of 2 v
+unfolding bytes_of
+bytes_of-two v = refl
+
+pub bytes_of-four : (v : ℕ) → to_le_bytes w32 v ≡ bytes_of 4 v
+unfolding bytes_of
+bytes_of-four v =
+    let two : v / 65536 ≡ v / 256 / 256 = omega arith in
+    let three : v / 16777216 ≡ v / 256 / 256 / 256 = omega arith in
+    rw (two, three)
+
 -- two runs side by side are one, at any place
 pub sets-append : (us vs xs : List ℕ) (at : ℕ) → sets (sets xs at us) (at + length us) vs ≡ sets xs at (us ++ vs)
 sets-append [] vs xs at = rw add-zero
@@ -158,7 +179,3 @@ sets-append (u ∷ us) vs xs at = rw (add-suc at (length us), ← suc-add at (le
 pub get_or-sets : (vs xs : List ℕ) (at j : ℕ) → at + length vs ≤ length xs → (j < at) ⊎ (at + length vs ≤ j) → get_or (sets xs at vs) j 0 ≡ get_or xs j 0
 get_or-sets vs xs at j h (inl l) = get_or-sets-low vs xs at j l
 get_or-sets vs xs at j h (inr l) = get_or-sets-high vs xs at j l
-
--- one store more, at the end of a run
-pub sets-snoc : (us xs : List ℕ) (at i v : ℕ) → at + length us ≡ i → set (sets xs at us) i v ≡ sets xs at (us ++ (v ∷ []))
-sets-snoc us xs at i v e = rw (← e) (sets-append us (v ∷ []) xs at)

@@ -3,12 +3,12 @@
 use mathlib.Core.Path.{◌≡◌, refl, sym, ap, ◌∙◌}
 use mathlib.Core.Logic.{◌⊎◌, inl, inr, ⊎_elim}
 use mathlib.Core.Bool.{Bool, true, false, cond}
-use Prim.Native.Nat.{ℕ, zero, suc, ◌+◌, ◌-◌, ◌*◌, ◌/◌, ◌%◌, ◌^◌, ◌≤◌, ◌<◌}
+use Prim.Native.Nat.{ℕ, suc, ◌+◌, ◌-◌, ◌*◌, ◌/◌, ◌%◌, ◌^◌, ◌≤◌, ◌<◌}
 use mathlib.Core.List.{[], ◌∷◌, map}
-use native.Mathlib.Nat.{zero-add, mod-lt, div-add-mod', suc-mul}
+use native.Mathlib.Nat.{mod-lt, div-add-mod', suc-mul}
 use native.Mathlib.Omega.{arith}
 use lib.Dec.{ltb, leb}
-use lib.IntN.{ℤ, pos, negsuc, ◌+ℤ◌, ◌-ℤ◌, ◌*ℤ◌}
+use lib.IntN.{ℤ, pos, negsuc, ◌+ℤ◌, ◌*ℤ◌}
 use lib.Signed.{le_z, mag, shr_z, mag_shr}
 use mir.Syntax.{w32}
 use mir.Val.{hbits, to_z, of_z, sel, SFits}
@@ -16,7 +16,7 @@ use mir.ValLaws.{sfits_le}
 use mir.Facts.{to_z-of_z, sfits_to_z}
 use borrow.Author.Rules.{sfits_of}
 use borrow.Author.Tests.{lt-ltb, le-ltb, le-leb, lt-leb, leb-true, leb-false, ltb-true, ltb-false}
-use Rattle.numbers.specs.Coordinates.{signed, signed32, floor_div, value_of, unmarked, sign_flipped}
+use Rattle.numbers.specs.Coordinates.{signed, signed32, floor_div, value_of, unmarked}
 
 -- a number is below a bound, or it is not
 pub lt-or-ge : (n m : ℕ) → (n < m) ⊎ (m ≤ n)
@@ -51,10 +51,8 @@ signed-to_z n =
 pub read_back : {z y : ℤ} → mag z < 2 ^ hbits w32 → z ≡ y → to_z w32 (of_z w32 z) ≡ y
 read_back f e = to_z-of_z {w = w32} (sfits_of {w = w32} f) ∙ e
 
--- -1 less m
-pub minus-one-less : (m : ℕ) → negsuc 0 -ℤ pos m ≡ negsuc m
-minus-one-less zero = refl
-minus-one-less (suc m) = ap (λ (k : ℕ). negsuc (suc k)) (zero-add m)
+pub machine_signed : (n : ℕ) → to_z w32 n ≡ signed32 n
+machine_signed n = sym (signed-to_z n)
 
 -- ---- rounding down: z is the quotient times m and a remainder that is not negative and below m
 
@@ -110,6 +108,10 @@ le_z-key (negsuc a) (negsuc b) f g =
 pub le_z-value : (a b : ℕ) → a < 2 ^ 32 → b < 2 ^ 32 → le_z (value_of a) (value_of b) ≡ leb (key (value_of a)) (key (value_of b))
 le_z-value a b f g = le_z-key (value_of a) (value_of b) (value-fits a f) (value-fits b g)
 
+-- the 32 bits of n with the sign bit flipped
+abbrev pub sign_flipped : ℕ → ℕ
+sign_flipped n = (n + 2147483648) % 4294967296
+
 -- the key of a signed number is its bits with the sign bit flipped
 flipped-key : (n : ℕ) → n < 2 ^ 32 → sign_flipped n ≡ key (signed32 n)
 flipped-key n h =
@@ -157,9 +159,10 @@ module _ (a b : ℕ) (f : a < 2 ^ 32) (g : b < 2 ^ 32) where
       (leb-same x y (2139095040 + sign_flipped a / 256) (2139095040 + sign_flipped b / 256) (λ l. omega (arith, h l)) (λ l. omega (arith, k l)))
 
   -- the marks of the second may stay
-  pub unmarked-order : leb (unmarked (sign_flipped a)) (sign_flipped b) ≡ le_z (value_of a) (value_of b)
+  pub unmarked-order : le_z (signed32 (unmarked a)) (signed32 b) ≡ le_z (value_of a) (value_of b)
   unfolding unmarked
-  unmarked-order = by_value (sign_flipped a / 256 * 256) (sign_flipped b) (λ l. omega arith) (λ l. omega arith)
+  unmarked-order =
+      le_z-flipped (a / 256 * 256) b (omega arith) g ∙ by_value (sign_flipped (a / 256 * 256)) (sign_flipped b) (λ l. omega arith) (λ l. omega arith)
 
   -- without marks the order by value is the signed order
   pub bare-order : unmarked a ≡ a → unmarked b ≡ b → le_z (signed32 a) (signed32 b) ≡ le_z (value_of a) (value_of b)

@@ -1,4 +1,4 @@
--- The laws of the definitions in specs/, a file for each: no one function's own. `Runs` has those of a run of stores as a loop makes it.
+-- The laws of the definitions in specs/, a file for each: no one function's own. `Runs` has those of a loop over bytes and of a comparison.
 pub mod Bytes
 pub mod Coordinates
 pub mod Ranges

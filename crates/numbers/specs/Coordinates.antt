@@ -4,8 +4,7 @@
 --     floor_div z m      z divided by m and rounded down
 --     value_of raw       the value of a raw coordinate in 0.01 mm: the signed number divided by 256 and rounded down
 --     unmarked raw      the raw coordinate with its low 8 bits, the marks, zero
---     sign_flipped n     the 32 bits of n with the sign bit flipped
-use Rattle.std.specs.Prelude.{ℕ, ◌+◌, ◌-◌, ◌*◌, ◌/◌, ◌%◌, cond, ltb, ℤ, pos, negsuc}
+use Rattle.std.specs.Prelude.{ℕ, ◌-◌, ◌*◌, ◌/◌, cond, ltb, ℤ, pos, negsuc}
 
 unfoldable pub signed : ℕ → ℕ → ℤ
 signed h n = cond (ltb n h) (pos n) (negsuc (2 * h - 1 - n))
@@ -25,6 +24,3 @@ value_of raw = floor_div (signed32 raw) 256
 
 unfoldable pub unmarked : ℕ → ℕ
 unmarked raw = raw / 256 * 256
-
-abbrev pub sign_flipped : ℕ → ℕ
-sign_flipped n = (n + 2147483648) % 4294967296

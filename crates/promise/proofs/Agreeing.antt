@@ -9,6 +9,10 @@ use lib.Dec.{eqb, leb}
 use lib.ListN.{length, take, drop}
 use lib.Seq.{length-sets}
 use borrow.Author.Tests.{ne_eqb, leb-true}
+use Rattle.std.specs.Prelude.{Result, Ok, Err}
+use Rattle.refusals.specs.declared.Refusal.{Refusal}
+use Rattle.refusals.specs.declared.Refusal.TheVariants.{BadObject, NoRoom, WrongState, NumberHeld, JournalFull}
+use Rattle.refusals.specs.Refusals.{number_of}
 use Rattle.numbers.specs.Bytes.{Bytes, bytes_of, same_bytes}
 use Rattle.numbers.specs.Below.{sel}
 use Rattle.numbers.proofs.Ranges.{within-true}
@@ -25,18 +29,17 @@ use Rattle.judge.specs.Rules.{family_for, family_of, slot_at, slot_at_of}
 use Rattle.judge.specs.Judging.{version_of}
 use Rattle.judge.proofs.Judging.{bytes-least}
 use Rattle.accept.specs.Slots.{slot_in, free_slot}
-use Rattle.accept.specs.declared.Verdict.TheVariants.{Accepted}
 use Rattle.accept.specs.Verdicts.{verdict}
 use Rattle.accept.proofs.Accepting.{Holds, editable-is}
 use Rattle.frame.proofs.Same.{SameMap, number_same, part_same, version-alike, slot_read, wide-slot-read}
 use Rattle.frame.proofs.Behind.{verdict-same, slot-place-same, slot-place-low, slot-in-same, free-same}
 use Rattle.look.specs.Found.{live_at, slots_for, found}
 use Rattle.journal.specs.declared.JournalLook.{JournalLook}
-use Rattle.journal.specs.declared.JournalLook.TheVariants.{Malformed, Held, New}
+use Rattle.journal.specs.declared.JournalLook.TheVariants.{Held, New}
 use Rattle.journal.specs.Journals.{record_in, holder, looked, is_full, appended}
 use Rattle.journal.proofs.Journals.{looked-held, held_tells, well-formed-tells, good-tells}
 use Rattle.edit.specs.declared.EditAnswer.{EditAnswer}
-use Rattle.edit.specs.declared.EditAnswer.TheVariants.{Done, Before, Refused}
+use Rattle.edit.specs.declared.EditAnswer.TheVariants.{Done, Before}
 use Rattle.edit.specs.Edits as edits
 use Rattle.edit.specs.Edits.{saying, after, after_look, start_of}
 use Rattle.edit.proofs.Edits.{start-look}
@@ -70,11 +73,11 @@ module _ {m m' : List ℕ} {used : ℕ} (s : SameMap used m m') where
   back = record { room = s.room'; room' = s.room; same = λ i l. sym (s.same i l) }
 
   -- an answer that changes nothing
-  still-agree : (j : List ℕ) (a : EditAnswer) → length_after (edited a) used ≤ used → Agree used (saying m j a) (saying m' j a)
+  still-agree : (j : List ℕ) (a : Result EditAnswer Refusal) → length_after (edited a) used ≤ used → Agree used (saying m j a) (saying m' j a)
   still-agree j a l = record { answer = refl; map = first-same (length_after (edited a) used) l; journal = refl }
 
-  pub refused-agree : (j : List ℕ) (k p : ℕ) → Agree used (saying m j (Refused k p)) (saying m' j (Refused k p))
-  refused-agree j k p = still-agree j (Refused k p) (go (eqb k 0 && true))
+  pub refused-agree : (j : List ℕ) (x : Refusal) → Agree used (saying m j (Err x)) (saying m' j (Err x))
+  refused-agree j x = still-agree j (Err x) (go (eqb (number_of x) 0 && true))
     where
       go : (b : Bool) → cond b 0 used ≤ used
       go true = omega arith
@@ -131,13 +134,13 @@ module _ {m m' : List ℕ} {used n : ℕ} (s : SameMap used m m') (h : Holds m u
   fresh-change b b' j e kind d = rw (allowed_same b b' kind d) (go (allowed_for kind m used n d) refl (is_full j))
     where
       done : List ℕ → edits.Outcome
-      done x = record { answer = Done d used; map = x; journal = appended j (record_for e kind d) }
+      done x = record { answer = Ok (Done d used); map = x; journal = appended j (record_for e kind d) }
 
       go : (a : Bool) → allowed_for kind m used n d ≡ a → (f : Bool)
-          → Agree used (cond a (cond f (saying m j (Refused 15 0)) (done (with_sym m d (sym_for kind m d)))) (saying m j (Refused 12 0)))
-          (cond a (cond f (saying m' j (Refused 15 0)) (done (with_sym m' d (sym_for kind m' d)))) (saying m' j (Refused 12 0)))
-      go false q f = refused-agree s j 12 0
-      go true q true = refused-agree s j 15 0
+          → Agree used (cond a (cond f (saying m j (Err JournalFull)) (done (with_sym m d (sym_for kind m d)))) (saying m j (Err WrongState)))
+          (cond a (cond f (saying m' j (Err JournalFull)) (done (with_sym m' d (sym_for kind m' d)))) (saying m' j (Err WrongState)))
+      go false q f = refused-agree s j WrongState
+      go true q true = refused-agree s j JournalFull
       go true q false =
           record {
             answer = refl;
@@ -149,9 +152,9 @@ module _ {m m' : List ℕ} {used n : ℕ} (s : SameMap used m m') (h : Holds m u
   unfolding repeat_change
   repeat-change j kind d k t = go (eqb k kind && eqb t d)
     where
-      go : (b : Bool) → Agree used (cond b (saying m j (Before d used)) (saying m j (Refused 14 0))) (cond b (saying m' j (Before d used)) (saying m' j (Refused 14 0)))
-      go true = still-agree s j (Before d used) (omega arith)
-      go false = refused-agree s j 14 0
+      go : (b : Bool) → Agree used (cond b (saying m j (Ok (Before d used))) (saying m j (Err NumberHeld))) (cond b (saying m' j (Ok (Before d used))) (saying m' j (Err NumberHeld)))
+      go true = still-agree s j (Ok (Before d used)) (omega arith)
+      go false = refused-agree s j NumberHeld
 
   -- ---- an add
 
@@ -166,7 +169,7 @@ module _ {m m' : List ℕ} {used n : ℕ} (s : SameMap used m m') (h : Holds m u
       go true e = rw (part_same s t.position (bytes_in (version_of m) t.len) (within-true 48 used (bytes_in (version_of m) t.len) t.position e).1)
       go false e = rw e
 
-  held-exists : (j : List ℕ) (e k t : ℕ) → looked j m n e ≡ Held k t → t < 256 * n
+  held-exists : (j : List ℕ) (e k t : ℕ) → looked j m n e ≡ Ok (Held k t) → t < 256 * n
   held-exists j e k t q =
       let l = looked-held j m n e k t q in
       let w = well-formed-tells j m n l.0.well in
@@ -176,9 +179,9 @@ module _ {m m' : List ℕ} {used n : ℕ} (s : SameMap used m m') (h : Holds m u
   unfolding repeat_add
   repeat-add j o k t l = rw (slot-in-same s h t l, object-is o (slot_in m t)) (go (eqb k 1 && is_object m used (slot_in m t) o))
     where
-      go : (b : Bool) → Agree used (cond b (saying m j (Before t used)) (saying m j (Refused 14 0))) (cond b (saying m' j (Before t used)) (saying m' j (Refused 14 0)))
-      go true = still-agree s j (Before t used) (omega arith)
-      go false = refused-agree s j 14 0
+      go : (b : Bool) → Agree used (cond b (saying m j (Ok (Before t used))) (saying m j (Err NumberHeld))) (cond b (saying m' j (Ok (Before t used))) (saying m' j (Err NumberHeld)))
+      go true = still-agree s j (Ok (Before t used)) (omega arith)
+      go false = refused-agree s j NumberHeld
 
   length-same : (o : List ℕ) → new_length m' used n o ≡ new_length m used n o
   unfolding new_length
@@ -186,7 +189,7 @@ module _ {m m' : List ℕ} {used n : ℕ} (s : SameMap used m m') (h : Holds m u
 
   -- both buffers have room: the same bytes are written
   abbrev add_done : List ℕ → List ℕ → ℕ → List ℕ → edits.Outcome
-  add_done x j e o = record { answer = Done (free_slot m n) (new_length m used n o); map = added_map x used n o; journal = appended j (record_for e 1 (free_slot m n)) }
+  add_done x j e o = record { answer = Ok (Done (free_slot m n) (new_length m used n o)); map = added_map x used n o; journal = appended j (record_for e 1 (free_slot m n)) }
 
   done-add : (j : List ℕ) (e : ℕ) (o : List ℕ) → new_length m used n o ≤ length m → new_length m used n o ≤ length m' → Agree used (add_done m j e o) (add_done m' j e o)
   done-add j e o l l' =
@@ -198,22 +201,22 @@ module _ {m m' : List ℕ} {used n : ℕ} (s : SameMap used m m') (h : Holds m u
 
   fresh-add : (j : List ℕ) (e : ℕ) (o : List ℕ)
       → Agree used (fresh_add m used j e o n) (fresh_add m' used j e o n)
-      ⊎ (((fresh_add m used j e o n).answer ≡ Refused 11 0) ⊎ ((fresh_add m' used j e o n).answer ≡ Refused 11 0))
+      ⊎ (((fresh_add m used j e o n).answer ≡ Err NoRoom) ⊎ ((fresh_add m' used j e o n).answer ≡ Err NoRoom))
   unfolding fresh_add
   fresh-add j e o =
       rw (version-alike s h.low, length-same o, free-same s h)
       (go (offered_good (version_of m) o) (leb (new_length m used n o) map_limit) (leb (new_length m used n o) (length m)) refl (leb (new_length m used n o) (length m')) refl (is_full j))
     where
       add-by : Bool → Bool → Bool → Bool → List ℕ → edits.Outcome
-      add-by a b r f x = cond a (cond (b && r) (cond f (saying x j (Refused 15 0)) (add_done x j e o)) (saying x j (Refused 11 0))) (saying x j (Refused 10 0))
+      add-by a b r f x = cond a (cond (b && r) (cond f (saying x j (Err JournalFull)) (add_done x j e o)) (saying x j (Err NoRoom))) (saying x j (Err BadObject))
 
       go : (a b r : Bool) → leb (new_length m used n o) (length m) ≡ r → (r' : Bool) → leb (new_length m used n o) (length m') ≡ r' → (f : Bool)
-          → Agree used (add-by a b r f m) (add-by a b r' f m') ⊎ (((add-by a b r f m).answer ≡ Refused 11 0) ⊎ ((add-by a b r' f m').answer ≡ Refused 11 0))
-      go false b r q r' q' f = inl (refused-agree s j 10 0)
-      go true false r q r' q' f = inl (refused-agree s j 11 0)
+          → Agree used (add-by a b r f m) (add-by a b r' f m') ⊎ (((add-by a b r f m).answer ≡ Err NoRoom) ⊎ ((add-by a b r' f m').answer ≡ Err NoRoom))
+      go false b r q r' q' f = inl (refused-agree s j BadObject)
+      go true false r q r' q' f = inl (refused-agree s j NoRoom)
       go true true false q r' q' f = inr (inl refl)
       go true true true q false q' f = inr (inr refl)
-      go true true true q true q' true = inl (refused-agree s j 15 0)
+      go true true true q true q' true = inl (refused-agree s j JournalFull)
       go true true true q true q' false = inl (done-add j e o (leb-true (new_length m used n o) (length m) q) (leb-true (new_length m used n o) (length m') q'))
 
   -- ---- the edits
@@ -225,27 +228,27 @@ module _ {m m' : List ℕ} {used n : ℕ} (s : SameMap used m m') (h : Holds m u
   unfolding changed
   change-agree b b' j e kind d = rw (start-look m used j e (editable-is h) refl, starts-same j e) (go (looked j m n e))
     where
-      then : List ℕ → JournalLook → edits.Outcome
+      then : List ℕ → Result JournalLook Refusal → edits.Outcome
       then x l = after x j (λ n k t. repeat_change x used j kind d k t) (λ n. fresh_change x used j e kind d (allowed_for kind x used n d) (sym_for kind x d)) (after_look x n l)
 
-      go : (l : JournalLook) → Agree used (then m l) (then m' l)
-      go Malformed = refused-agree s j 13 0
-      go (Held k t) = repeat-change j kind d k t
-      go (New k) = fresh-change b b' j e kind d
+      go : (l : Result JournalLook Refusal) → Agree used (then m l) (then m' l)
+      go (Err x) = refused-agree s j x
+      go (Ok (Held k t)) = repeat-change j kind d k t
+      go (Ok (New k)) = fresh-change b b' j e kind d
 
   pub add-agree : (j : List ℕ) (e : ℕ) (o : List ℕ)
-      → Agree used (added m used j e o) (added m' used j e o) ⊎ (((added m used j e o).answer ≡ Refused 11 0) ⊎ ((added m' used j e o).answer ≡ Refused 11 0))
+      → Agree used (added m used j e o) (added m' used j e o) ⊎ (((added m used j e o).answer ≡ Err NoRoom) ⊎ ((added m' used j e o).answer ≡ Err NoRoom))
   unfolding added
   add-agree j e o = rw (start-look m used j e (editable-is h) refl, starts-same j e) (go (looked j m n e) refl)
     where
-      then : List ℕ → JournalLook → edits.Outcome
+      then : List ℕ → Result JournalLook Refusal → edits.Outcome
       then x l = after x j (λ n k t. repeat_add x used j o k t) (λ n. fresh_add x used j e o n) (after_look x n l)
 
-      go : (l : JournalLook) → looked j m n e ≡ l
-          → Agree used (then m l) (then m' l) ⊎ (((then m l).answer ≡ Refused 11 0) ⊎ ((then m' l).answer ≡ Refused 11 0))
-      go Malformed q = inl (refused-agree s j 13 0)
-      go (Held k t) q = inl (repeat-add j o k t (held-exists j e k t q))
-      go (New k) q = fresh-add j e o
+      go : (l : Result JournalLook Refusal) → looked j m n e ≡ l
+          → Agree used (then m l) (then m' l) ⊎ (((then m l).answer ≡ Err NoRoom) ⊎ ((then m' l).answer ≡ Err NoRoom))
+      go (Err x) q = inl (refused-agree s j x)
+      go (Ok (Held k t)) q = inl (repeat-add j o k t (held-exists j e k t q))
+      go (Ok (New k)) q = fresh-add j e o
 
 -- ---- the search, of an accepted map of either layout
 
@@ -259,7 +262,7 @@ module _ {m m' : List ℕ} {used : ℕ} (s : SameMap used m m') where
   live_alike true w p l = rw (wide-slot-read s p l, rectangle-same p (omega arith))
   live_alike false w p l = rw (slot_read s p l, rectangle-same p (omega arith))
 
-  pub found-same : {n : ℕ} → verdict m used ≡ Accepted n → (w : Window) → found m' n w ≡ found m n w
+  pub found-same : {n : ℕ} → verdict m used ≡ Ok n → (w : Window) → found m' n w ≡ found m n w
   unfolding slots_for
   found-same {n} e w =
       sel-alike (256 * n)

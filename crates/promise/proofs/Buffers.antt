@@ -6,24 +6,22 @@ use mathlib.Core.List.{List}
 use native.Mathlib.Omega.{arith}
 use lib.ListN.{length, take}
 use lib.Seq.{sets, take_all, length-take-le}
+use Rattle.std.specs.Prelude.{Result, Ok, Err}
+use Rattle.refusals.specs.declared.Refusal.{Refusal}
+use Rattle.refusals.specs.declared.Refusal.TheVariants.{NoRoom}
 use Rattle.numbers.specs.Bytes.{Bytes}
 use Rattle.numbers.proofs.Coordinates.{lt-or-ge}
 use Rattle.windows.specs.declared.Window.{Window}
 use Rattle.windows.specs.Windows.{window_good}
-use Rattle.accept.specs.declared.Verdict.{Verdict}
-use Rattle.accept.specs.declared.Verdict.TheVariants as verdicts
 use Rattle.accept.specs.Verdicts.{verdict, Editable}
 use Rattle.accept.proofs.Accepting.{accepted-tells}
 use Rattle.frame.proofs.Same.{SameMap}
 use Rattle.frame.proofs.Behind.{verdict-same}
-use Rattle.find.specs.declared.SearchAnswer.{SearchAnswer}
-use Rattle.find.specs.declared.SearchAnswer.TheVariants as answers
-use Rattle.find.specs.declared.SearchAnswer.TheVariants.{Found, Short}
+use Rattle.find.specs.declared.Listed.{Listed}
 use Rattle.look.specs.Found.{found}
 use Rattle.find.specs.Searches.{answer_for, answer_of, list_for, list_after}
 use Rattle.find.proofs.Searches.{found-tells}
 use Rattle.edit.specs.declared.EditAnswer.{EditAnswer}
-use Rattle.edit.specs.declared.EditAnswer.TheVariants.{Refused}
 use Rattle.edit.specs.Edits as edits
 use Rattle.change.specs.Changes.{changed}
 use Rattle.add.specs.Adds.{added}
@@ -38,7 +36,7 @@ use Rattle.promise.proofs.Agreeing.{Agree, first-same, refused-agree, change-agr
 module _ {m m' : List ℕ} {used : ℕ} (s : SameMap used m m') where
   -- in both buffers the map refuses every edit alike, or it is accepted and of 6 to 8
   abbrev BothRefuse : Type 0
-  BothRefuse = (k : ℕ) × (p : ℕ) × RefusesEdits m used k p × RefusesEdits m' used k p
+  BothRefuse = (x : Refusal) × RefusesEdits m used x × RefusesEdits m' used x
 
   both : BothRefuse ⊎ ((n : ℕ) × Editable m used n)
   both = refused-or-editable m m' used (verdict-same s) (λ n q. accepted-version s q)
@@ -46,15 +44,15 @@ module _ {m m' : List ℕ} {used : ℕ} (s : SameMap used m m') where
   change-any : Bytes m → Bytes m' → (j : List ℕ) (e kind d : ℕ) → Agree used (changed m used j e kind d) (changed m' used j e kind d)
   change-any b b' j e kind d =
       ⊎_elim
-      (λ (r : BothRefuse). unfold changed in rw (r.2 j e, r.3 j e) (refused-agree s j r.0 r.1))
+      (λ (r : BothRefuse). unfold changed in rw (r.1 j e, r.2 j e) (refused-agree s j r.0))
       (λ r. change-agree s (accepted-tells m used r.0 r.1) b b' j e kind d)
       both
 
   add-any : (j : List ℕ) (e : ℕ) (o : List ℕ)
-      → Agree used (added m used j e o) (added m' used j e o) ⊎ (((added m used j e o).answer ≡ Refused 11 0) ⊎ ((added m' used j e o).answer ≡ Refused 11 0))
+      → Agree used (added m used j e o) (added m' used j e o) ⊎ (((added m used j e o).answer ≡ Err NoRoom) ⊎ ((added m' used j e o).answer ≡ Err NoRoom))
   add-any j e o =
       ⊎_elim
-      (λ (r : BothRefuse). inl (unfold added in rw (r.2 j e, r.3 j e) (refused-agree s j r.0 r.1)))
+      (λ (r : BothRefuse). inl (unfold added in rw (r.1 j e, r.2 j e) (refused-agree s j r.0)))
       (λ r. add-agree s (accepted-tells m used r.0 r.1) j e o)
       both
 
@@ -62,18 +60,17 @@ module _ {m m' : List ℕ} {used : ℕ} (s : SameMap used m m') where
   unfolding answer_of
   answer-any w room = rw (verdict-same s) (go (verdict m used) refl)
     where
-      go : (v : Verdict) → verdict m used ≡ v → answer_for v (λ n. found m' n w) (window_good w) room ≡ answer_for v (λ n. found m n w) (window_good w) room
-      go (verdicts.Accepted n) q = unfold answer_for in rw (found-same s q w)
-      go (verdicts.Refused k p) q = unfold answer_for in refl
+      go : (v : Result ℕ Refusal) → verdict m used ≡ v → answer_for v (λ n. found m' n w) (window_good w) room ≡ answer_for v (λ n. found m n w) (window_good w) room
+      go (Ok n) q = unfold answer_for in rw (found-same s q w)
+      go (Err x) q = unfold answer_for in refl
 
   list_any : (w : Window) (l : List ℕ) → list_after m' used w l ≡ list_after m used w l
   unfolding list_after
   list_any w l = rw (answer-any w (length l)) (go (answer_of m used w (length l)) refl)
     where
-      go : (a : SearchAnswer) → answer_of m used w (length l) ≡ a → list_for a (λ n. found m' n w) l ≡ list_for a (λ n. found m n w) l
-      go (Found c b) q = ap (sets l 0) (found-same s (found-tells m used w (length l) q).accepted w)
-      go (Short c) q = refl
-      go (answers.Refused k p) q = refl
+      go : (a : Result Listed Refusal) → answer_of m used w (length l) ≡ a → list_for a (λ n. found m' n w) l ≡ list_for a (λ n. found m n w) l
+      go (Ok x) q = ap (sets l 0) (found-same s (found-tells m used w (length l) q).accepted w)
+      go (Err x) q = refl
 
 -- ---- the calls
 
@@ -83,7 +80,7 @@ Same st c st' = (((outcome st' c).said ≡ (outcome st c).said) × Alike (step s
 
 alike_of : {used : ℕ} {o o' : edits.Outcome} → Agree used o o' → Alike (next used (of_edit o)) (next used (of_edit o'))
 alike_of {used} a =
-    record { used = ap (λ (x : EditAnswer). length_after (edited x) used) a.answer; map = rw a.answer a.map; journal = a.journal }
+    record { used = ap (λ (x : Result EditAnswer Refusal). length_after (edited x) used) a.answer; map = rw a.answer a.map; journal = a.journal }
 
 module _ (st : State) (b : List ℕ) (x : Bytes st.map) (y : Bytes b) (s : SameMap st.used st.map b) where
   same-call : (c : Call) → Same st c (with_buffer st b)

@@ -7,6 +7,8 @@ use mathlib.Core.List.{List}
 use lib.ListN.{length, drop}
 use lib.Seq.{take-append_seam}
 use borrow.Author.Tests.{lt-ltb}
+use Rattle.std.specs.Prelude.{Result, Ok}
+use Rattle.refusals.specs.declared.Refusal.{Refusal}
 use Rattle.numbers.proofs.Coordinates.{lt-or-ge}
 use Rattle.windows.specs.declared.Window.{Window}
 use Rattle.slots.specs.declared.State.TheVariants.{Live}
@@ -15,10 +17,9 @@ use Rattle.windows.specs.Windows.{rectangle_at, sides_of, meets_window}
 use Rattle.records.specs.Headers.{is_wide}
 use Rattle.judge.specs.Rules.{family_of, slot_at_of}
 use Rattle.judge.specs.Judging.{version_of}
-use Rattle.accept.specs.declared.Verdict.TheVariants.{Accepted}
 use Rattle.accept.specs.Verdicts.{verdict}
 use Rattle.look.specs.Found.{live_at, found}
-use Rattle.find.specs.declared.SearchAnswer.{SearchAnswer}
+use Rattle.find.specs.declared.Listed.{Listed}
 use Rattle.find.specs.Searches.{answer_of, list_for, list_after, In}
 use Rattle.find.proofs.Searches.{in_list, ascending, answer-window, answer-short, answer-found, answers, list-found}
 use Rattle.accept.specs.Slots.{slot_in}
@@ -61,11 +62,11 @@ wide-found-is m n w e s = (
 -- ---- what a search says
 
 -- by its answer
-says : (m : List ℕ) (used : ℕ) (w : Window) (l : List ℕ) {a : SearchAnswer} → answer_of m used w (length l) ≡ a → searched (answer_of m used w (length l)) (list_after m used w l) ≡ searched a (list_for a (λ n. found m n w) l)
+says : (m : List ℕ) (used : ℕ) (w : Window) (l : List ℕ) {a : Result Listed Refusal} → answer_of m used w (length l) ≡ a → searched (answer_of m used w (length l)) (list_after m used w l) ≡ searched a (list_for a (λ n. found m n w) l)
 says m used w l e = ap₂ searched e (sym (answers m used w l e).1)
 
 -- of an accepted map, where those wanted are found
-says-found : (st : State) (w : Window) (l : List ℕ) {n : ℕ} (wanted : ℕ → Type 0) → verdict st.map st.used ≡ Accepted n
+says-found : (st : State) (w : Window) (l : List ℕ) {n : ℕ} (wanted : ℕ → Type 0) → verdict st.map st.used ≡ Ok n
     → ((s : ℕ) → In s (found st.map n w) ↔ wanted s) → SearchSays wanted st w l
 says-found st w l {n} wanted e exactly =
     let m = st.map in

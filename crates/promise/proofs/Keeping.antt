@@ -7,6 +7,8 @@ use mathlib.Core.List.{List}
 use native.Mathlib.Omega.{arith}
 use lib.ListN.{length, get_or, take}
 use lib.Seq.{length-take-le}
+use Rattle.std.specs.Prelude.{Result, Ok}
+use Rattle.refusals.specs.declared.Refusal.{Refusal}
 use Rattle.numbers.specs.Bytes.{Bytes}
 use Rattle.windows.specs.declared.Window.{Window}
 use Rattle.records.specs.Journals.{record_for, shape_good}
@@ -51,7 +53,7 @@ pub record Did (st : State) (c : Call) (n : ℕ) : Type 0 where
   pub slot : ℕ
   pub own : (record_due c slot).slot ≡ slot
   pub blocks : ℕ
-  pub said : (outcome st c).said ≡ edited (Done slot (step st c).used)
+  pub said : (outcome st c).said ≡ edited (Ok (Done slot (step st c).used))
   pub moved : Moved st.map (step st c).map st.used (step st c).used n blocks slot
   pub fresh : is_held st.journal (record_due c slot).number ≡ false
   pub well : well_formed st.journal st.map n ≡ true
@@ -75,7 +77,7 @@ record-good e kind s f ne a b g =
 still-same : (st : State) (out : edits.Outcome) → Still st.map st.journal out → next st.used (of_edit out) ≡ st
 still-same st out s = λ i. record { map = s.map i; used = same out.answer s.idle i; journal = s.journal i }
   where
-    same : (a : EditAnswer) → says_done (edited a) ≡ false → length_after (edited a) st.used ≡ st.used
+    same : (a : Result EditAnswer Refusal) → says_done (edited a) ≡ false → length_after (edited a) st.used ≡ st.used
     same a e = rw e
 
 pub record Idle (st : State) (c : Call) : Type 0 where
@@ -113,7 +115,7 @@ module _ {st : State} (g : Good st) where
     did-change d =
         let mv = moves d.allowed in
         let r = record-good e kind s fits d.number least most (slot-fits h s mv.here) in
-        let said : (outcome st c).said ≡ edited (Done s st.used) = rw (is, d.answer) in
+        let said : (outcome st c).said ≡ edited (Ok (Done s st.used)) = rw (is, d.answer) in
         let map : (outcome st c).map ≡ with_sym st.map s (sym_for kind st.map s) = rw is d.map in
         let len : length_after (outcome st c).said st.used ≡ st.used = rw said in
         record {

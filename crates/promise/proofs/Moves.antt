@@ -10,6 +10,8 @@ use native.Mathlib.Omega.{arith}
 use lib.Dec.{eqb, ltb}
 use lib.ListN.{length}
 use borrow.Author.Tests.{ltb-true, ltb-false, lt-ltb, eqb-true, eqb-false, ne_eqb, not-true}
+use Rattle.std.specs.Prelude.{Result, Ok, Err}
+use Rattle.refusals.specs.declared.Refusal.{Refusal}
 use Rattle.numbers.specs.Bytes.{Bytes}
 use Rattle.numbers.proofs.Bytes.{le_at-lt}
 use Rattle.numbers.specs.Below.{first}
@@ -17,8 +19,6 @@ use Rattle.numbers.proofs.Below.{never, first-law}
 use Rattle.slots.specs.declared.Slot.{Slot}
 use Rattle.slots.specs.declared.State.TheVariants.{Free, Erased, Live}
 use Rattle.slots.specs.Slots.{slot_of, state_of, same_state, len_of}
-use Rattle.accept.specs.declared.Verdict.{Verdict}
-use Rattle.accept.specs.declared.Verdict.TheVariants as verdicts
 use Rattle.judge.specs.Rules.{slot_at}
 use Rattle.judge.specs.Judging.{version_of}
 use Rattle.accept.specs.Verdicts.{verdict}
@@ -104,9 +104,9 @@ module _ {m : List ℕ} {used n : ℕ} (h : Holds m used n) (bytes : Bytes m) (s
       live-not-free : Live ≡ Free → ⊥
       live-not-free q = let z : ◌≡◌ {A = ℕ} 0 1 = cc in omega arith
 
-  accepted-holds : (l : s < 256 * n) (y : ℕ) (v : Verdict) → verdict (with_sym m s y) used ≡ v → is_accepted v ≡ true → Holds (with_sym m s y) used n
-  accepted-holds l y (verdicts.Refused k p) q e = absurd (never (sym e))
-  accepted-holds l y (verdicts.Accepted k) q e =
+  accepted-holds : (l : s < 256 * n) (y : ℕ) (v : Result ℕ Refusal) → verdict (with_sym m s y) used ≡ v → is_accepted v ≡ true → Holds (with_sym m s y) used n
+  accepted-holds l y (Err x) q e = absurd (never (sym e))
+  accepted-holds l y (Ok k) q e =
       let g = accepted-tells (with_sym m s y) used k (q, rw (version-same (sym-change h s l y)) (holds-narrow h)) in
       rw (blocks-one (sym g.index ∙ (sym-change h s l y).index)) at g
 

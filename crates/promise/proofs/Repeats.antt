@@ -5,6 +5,7 @@ use mathlib.Core.Path.{◌≡◌, refl, sym, ap, ◌∙◌}
 use mathlib.Core.Logic.{⊎_elim}
 use mathlib.Core.List.{List, [], ◌∷◌}
 use borrow.Author.Tests.{eq-eqb, ne_eqb}
+use Rattle.std.specs.Prelude.{Ok}
 use Rattle.numbers.proofs.Below.{never}
 use Rattle.slots.specs.declared.Slot.{Slot}
 use Rattle.slots.specs.Slots.{bytes_in}
@@ -47,13 +48,13 @@ did-keeps {st} g c d =
 -- ---- what is held under its number, kind and slot is answered "done before"
 
 pub repeated : {st : State} (g : Good st) (e kind s : ℕ) → Keeps st.journal e (record_for e kind s) → (e ≡ 0 → ⊥)
-    → (changed st.map st.used st.journal e kind s).answer ≡ Before s st.used
+    → (changed st.map st.used st.journal e kind s).answer ≡ Ok (Before s st.used)
 unfolding changed start_of looked repeat_change
 repeated {st} g e kind s k ne = rw (g.accepted, g.narrow, ne_eqb e 0 ne, g.well, k.held, k.is, eq-eqb kind kind refl, eq-eqb s s refl)
 
 -- an add, where the slot's object equals the offered bytes
 repeated-add : {st : State} (g : Good st) (e s : ℕ) (o : List ℕ) → Keeps st.journal e (record_for e 1 s) → (e ≡ 0 → ⊥)
-    → is_object st.map st.used (slot_in st.map s) o ≡ true → (added st.map st.used st.journal e o).answer ≡ Before s st.used
+    → is_object st.map st.used (slot_in st.map s) o ≡ true → (added st.map st.used st.journal e o).answer ≡ Ok (Before s st.used)
 unfolding added start_of looked repeat_add
 repeated-add {st} g e s o k ne same = rw (g.accepted, g.narrow, ne_eqb e 0 ne, g.well, k.held, k.is, same)
 
@@ -76,12 +77,12 @@ kept-object {m₀} {s} {st} {n} o x e =
 module _ {st : State} (g : Good st) (xs : List Event) where
   -- what a repeat of a done call c is to be answered after the events
   abbrev Told : Call → Type 0
-  Told c = (outcome (run (step st c) xs) c).said ≡ edited (Before (slot_said (outcome st c).said) (run (step st c) xs).used)
+  Told c = (outcome (run (step st c) xs) c).said ≡ edited (Ok (Before (slot_said (outcome st c).said) (run (step st c) xs).used))
 
   -- the slot that c named
-  slot-told : (c : Call) (d : Did st c g.blocks) → ◌≡◌ {A = Said} (edited (Before d.slot (run (step st c) xs).used))
-      (edited (Before (slot_said (outcome st c).said) (run (step st c) xs).used))
-  slot-told c d = ap (λ (t : ℕ). edited (Before t (run (step st c) xs).used)) (sym (ap slot_said d.said))
+  slot-told : (c : Call) (d : Did st c g.blocks) → ◌≡◌ {A = Said} (edited (Ok (Before d.slot (run (step st c) xs).used)))
+      (edited (Ok (Before (slot_said (outcome st c).said) (run (step st c) xs).used)))
+  slot-told c d = ap (λ (t : ℕ). edited (Ok (Before t (run (step st c) xs).used))) (sym (ap slot_said d.said))
 
   change-told : (c : Call) → Sent c → Fair (step st c) xs → (d : Did st c g.blocks) → (e kind s : ℕ)
       → ((w : State) → (outcome w c).said ≡ edited (changed w.map w.used w.journal e kind s).answer) → d.slot ≡ s → record_due c s ≡ record_for e kind s → Told c

@@ -8,6 +8,7 @@ use native.Mathlib.Omega.{arith}
 use lib.ListN.{length}
 use lib.Seq.{length-sets}
 use borrow.Author.Tests.{le-leb}
+use Rattle.std.specs.Prelude.{Ok}
 use Rattle.numbers.specs.Bytes.{Bytes, le_at, bytes_of}
 use Rattle.numbers.specs.Below.{any, first}
 use Rattle.numbers.specs.Coordinates.{signed, value_of, unmarked}
@@ -22,7 +23,6 @@ use Rattle.slots.specs.Objects.{object_of, type_good}
 use Rattle.windows.specs.Rectangles.{x_of, y_of, cover_to, without_marks, rectangle_of}
 use Rattle.windows.specs.Windows.{meets_window}
 use Rattle.chain.specs.Chains.{place, block, stops, taken, walked}
-use Rattle.accept.specs.declared.Verdict.TheVariants.{Accepted}
 use Rattle.judge.specs.Judging.{version_of, length_good, part_good}
 use Rattle.accept.specs.Verdicts.{cells_judged, parts_judged, fields_judged, header_judged, verdict, Editable, after_index_of, entries_judged_of, slots_judged_of, symbols_judged_of}
 use Rattle.accept.proofs.Accepting.{accepted-tells, editable-is}
@@ -40,12 +40,12 @@ use Rattle.promise.proofs.Steps.{add_done_lem}
 use Rattle.promise.proofs.Moves.{Moved, moved-use, moved_here, added-grown, added-moved, blocks_after}
 use Rattle.promise.specs.Runs.{Good}
 
-accepted : verdict empty7 48 ≡ Accepted 0
+accepted : verdict empty7 48 ≡ Ok 0
 unfolding verdict header_judged fields_judged parts_judged length_good header_of version_good is_wide pair_good part_good le_at after_index_of symbols_judged_of entries_judged_of slots_judged_of cells_judged walked taken first any stops block place
 accepted = refl
 
 -- the same in any buffer
-accepted-in : (rest : List ℕ) → verdict (empty7 ++ rest) 48 ≡ Accepted 0
+accepted-in : (rest : List ℕ) → verdict (empty7 ++ rest) 48 ≡ Ok 0
 unfolding verdict header_judged fields_judged parts_judged length_good header_of version_good is_wide pair_good part_good le_at after_index_of symbols_judged_of entries_judged_of slots_judged_of cells_judged walked taken first any stops block place
 accepted-in rest = rw (le-leb 48 (length (empty7 ++ rest)) (omega arith))
 
@@ -105,7 +105,7 @@ first-shape : shape_good first_record ≡ true
 unfolding shape_good kind_good
 first-shape = refl
 
-module _ (m : List ℕ) (v : verdict m 48 ≡ Accepted 0) (seven : version_of m ≡ 7) (room : 6236 ≤ length m) where
+module _ (m : List ℕ) (v : verdict m 48 ≡ Ok 0) (seven : version_of m ≡ 7) (room : 6236 ≤ length m) where
   m' : List ℕ
   m' = added_map m 48 0 point_object
 
@@ -143,7 +143,7 @@ module _ (m : List ℕ) (v : verdict m 48 ≡ Accepted 0) (seven : version_of m 
 
   -- ---- what the adds answer
 
-  one : added m 48 empty_journal 1 point_object ≡ record { answer = Done 0 6236; map = m'; journal = appended empty_journal first_record }
+  one : added m 48 empty_journal 1 point_object ≡ record { answer = Ok (Done 0 6236); map = m'; journal = appended empty_journal first_record }
   unfolding m' new_length free_slot first
   one = add_done_lem m 48 empty_journal 1 point_object 0 editable (λ q. omega arith) empty-room.0 (empty-well m) good (omega arith) room empty-room.1
 
@@ -159,7 +159,7 @@ module _ (m : List ℕ) (v : verdict m 48 ≡ Accepted 0) (seven : version_of m 
   unfolding m' added_map in_block free_slot first
   length-same = rw (length-sets, length-sets, length-sets)
 
-  two : 6276 ≤ length m → (added m' 6236 (appended empty_journal first_record) 2 point_object).answer ≡ Done 1 6276
+  two : 6276 ≤ length m → (added m' 6236 (appended empty_journal first_record) 2 point_object).answer ≡ Ok (Done 1 6276)
   unfolding m'
   two more =
       let l = length_two in
@@ -172,10 +172,10 @@ module _ (m : List ℕ) (v : verdict m 48 ≡ Accepted 0) (seven : version_of m 
 
 -- ---- the same of the empty map in a buffer
 
-first-answer : (rest : List ℕ) → 6236 ≤ length (empty7 ++ rest) → (first_add rest).answer ≡ Done 0 6236
+first-answer : (rest : List ℕ) → 6236 ≤ length (empty7 ++ rest) → (first_add rest).answer ≡ Ok (Done 0 6236)
 first-answer rest room = rw (one (empty7 ++ rest) (accepted-in rest) (seven-in rest) room)
 
-second-answer : (rest : List ℕ) → 6276 ≤ length (empty7 ++ rest) → (second_add rest).answer ≡ Done 1 6276
+second-answer : (rest : List ℕ) → 6276 ≤ length (empty7 ++ rest) → (second_add rest).answer ≡ Ok (Done 1 6276)
 second-answer rest room =
     let v = accepted-in rest in
     let seven = seven-in rest in

@@ -3,14 +3,13 @@ use Prim.Native.Nat.{ℕ}
 use mathlib.Core.Bool.{true, false}
 use mathlib.Core.Path.{◌≡◌, refl, ap, ◌∙◌}
 use mathlib.Core.List.{List, [], ◌∷◌}
+use Rattle.std.specs.Prelude.{Ok, Err}
+use Rattle.refusals.specs.declared.Refusal.TheVariants.{WideMap}
 use Rattle.records.specs.Headers.{is_wide}
 use Rattle.judge.specs.Judging.{version_of}
-use Rattle.accept.specs.declared.Verdict.TheVariants.{Accepted}
 use Rattle.accept.specs.Verdicts.{verdict}
 use Rattle.frame.proofs.Same.{SameMap}
 use Rattle.frame.proofs.Behind.{verdict-same}
-use Rattle.edit.specs.declared.EditAnswer.TheVariants as edits
-use Rattle.edit.specs.declared.EditStart.TheVariants as starts
 use Rattle.edit.specs.Edits.{start_of}
 use Rattle.edit.proofs.Edits.{start-wide}
 use Rattle.change.specs.Changes.{changed}
@@ -22,15 +21,15 @@ use Rattle.promise.proofs.Promises.{nothing-else}
 
 -- an accepted map of 9 to 11
 record Wide (st : State) (n : ℕ) : Type 0 where
-  accepted : verdict st.map st.used ≡ Accepted n
+  accepted : verdict st.map st.used ≡ Ok n
   wide : is_wide (version_of st.map) ≡ true
 
 module _ {st : State} {n : ℕ} (x : Wide st n) where
   -- it refuses every edit
-  wide-start : (e : ℕ) → start_of st.map st.used st.journal e ≡ starts.Refused 17 0
+  wide-start : (e : ℕ) → start_of st.map st.used st.journal e ≡ Err WideMap
   wide-start e = start-wide st.map st.used st.journal e x.accepted x.wide
 
-  wide-says : (c : Call) → IsEdit c → (outcome st c).said ≡ edited (edits.Refused 17 0)
+  wide-says : (c : Call) → IsEdit c → (outcome st c).said ≡ edited (Err WideMap)
   unfolding added changed
   wide-says (add e o) i = rw (wide-start e)
   wide-says (remove e s) i = rw (wide-start e)

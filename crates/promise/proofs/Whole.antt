@@ -9,6 +9,7 @@ use lib.Dec.{eqb, ltb}
 use borrow.Author.Tests.{ltb-true, le-ltb}
 use lib.ListN.{length, get_or, take, drop, set, length-append}
 use lib.Seq.{sets, set_out, take_at, take-set-le, take-set-lt, length-take-le, get_or-take, take_all, take-take}
+use Rattle.std.specs.Prelude.{Ok}
 use Rattle.numbers.specs.Bytes.{Bytes, u16_at, bytes_of}
 use Rattle.numbers.proofs.Bytes.{sets-splice, sets-append}
 use Rattle.numbers.proofs.Coordinates.{lt-or-ge}
@@ -21,7 +22,6 @@ use Rattle.chain.specs.Chains.{place}
 use Rattle.judge.specs.Rules.{slot_at}
 use Rattle.judge.specs.Judging.{version_of}
 use Rattle.judge.proofs.Judging.{bytes-least}
-use Rattle.accept.specs.declared.Verdict.TheVariants.{Accepted}
 use Rattle.accept.specs.Slots.{slot_in, free_slot}
 use Rattle.accept.specs.Verdicts.{verdict}
 use Rattle.accept.proofs.Verdicts.{header-tells}
@@ -75,10 +75,10 @@ same_of used m m' h e =
         omega arith
 
 -- an accepted map, of either layout: its length lies between the limits and in the buffer, and in another buffer it has one version
-pub accepted-length : (m : List ℕ) (used : ℕ) {n : ℕ} → verdict m used ≡ Accepted n → (48 ≤ used) × (used ≤ 16777216) × (used ≤ length m)
+pub accepted-length : (m : List ℕ) (used : ℕ) {n : ℕ} → verdict m used ≡ Ok n → (48 ≤ used) × (used ≤ 16777216) × (used ≤ length m)
 accepted-length m used {n} e = header-tells m used (verdict-tells m used n e).header
 
-pub accepted-version : {m m' : List ℕ} {used n : ℕ} → SameMap used m m' → verdict m used ≡ Accepted n → version_of m' ≡ version_of m
+pub accepted-version : {m m' : List ℕ} {used n : ℕ} → SameMap used m m' → verdict m used ≡ Ok n → version_of m' ≡ version_of m
 accepted-version {m} {m'} {used} s e = version-alike s (accepted-length m used e).0
 
 pub object-sym-same : {m m' : List ℕ} {used n : ℕ} → SameMap used m m' → Holds m used n → (s : ℕ) → s < 256 * n → (slot_in m s).position + 2 ≤ used

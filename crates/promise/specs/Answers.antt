@@ -4,21 +4,21 @@
 --     One S                               two results that S allows are equal
 --     OneSearch S, OneEdit S              the same of a search's result S, and of an edit's
 --     OneCEdit S                          of an edit's over the C interface
---     OneAnswer                           one answer each, by the name of the call; in `accept`, `find` and `edit` also the calls that take an answer apart
+--     OneAnswer                           one answer each, by the name of the call; in `refusals`, `find` and `edit` also the calls that take an answer apart
+use Rattle.std.specs.Prelude.{Result}
+use Rattle.refusals.specs.declared.Refusal.{Refusal}
+use Rattle.refusals.specs.Refusals.{answer_number, answer_place}
 use Rattle.std.specs.Prelude.{ℕ, ◌≡◌, List, ℤ}
 use Rattle.std.specs.Borrow.{Bor}
 use Rattle.windows.specs.declared.Window.{Window}
-use Rattle.accept.specs.declared.Verdict.{Verdict}
-use Rattle.accept.specs.Verdicts as verdicts
 use Rattle.accept.specs.Verdicts.{Checked}
-use Rattle.find.specs.declared.SearchAnswer.{SearchAnswer}
-use Rattle.find.specs.Searches as searches
+use Rattle.find.specs.declared.Listed.{Listed}
 use Rattle.find.specs.Searches.{count_of, blocks_of, checked_length, Searched}
 use Rattle.find.specs.Inputs.{SearchedInput}
 use Rattle.view.specs.declared.MapView.{MapView}
 use Rattle.view.specs.Views.{Viewed, FoundIn, SearchedView}
 use Rattle.edit.specs.declared.EditAnswer.{EditAnswer}
-use Rattle.edit.specs.Edits.{Outcome, number_of, place_of, before_of, slot_no, length_of}
+use Rattle.edit.specs.Edits.{Outcome, before_of, slot_no, length_of}
 use Rattle.add.specs.Adds.{Added}
 use Rattle.change.specs.Changes.{Removed, Reinstated}
 use Rattle.taffrail.specs.Calls.{window_from, CChecked, CSearched, CAdded, CRemoved, CReinstated}
@@ -29,15 +29,15 @@ One {A} S = (a b : A) → S a → S b → a ≡ b
 -- ---- the searches: the answer, and the list afterwards
 
 pub record SearchResult : Type 0 where
-  pub answer : SearchAnswer
+  pub answer : Result Listed Refusal
   pub list : List ℕ
 
-abbrev pub OneSearch : (SearchAnswer → List ℕ → Type 0) → Type 0
+abbrev pub OneSearch : (Result Listed Refusal → List ℕ → Type 0) → Type 0
 OneSearch S = One (λ (r : SearchResult). S r.answer r.list)
 
 -- ---- the edits: the answer, and the map and the journal afterwards
 
-abbrev pub OneEdit : (EditAnswer → List ℕ → List ℕ → Type 0) → Type 0
+abbrev pub OneEdit : (Result EditAnswer Refusal → List ℕ → List ℕ → Type 0) → Type 0
 OneEdit S = One (λ (r : Outcome). S r.answer r.map r.journal)
 
 -- ---- the C interface: the number, the other numbers that are written, and what is lent afterwards
@@ -70,15 +70,15 @@ OneCEdit S = One (λ (r : CEditResult). S r.number r.place r.before r.slot r.new
 pub record OneAnswer : Type 0 where
   -- accept
   pub check : (m : List ℕ) (used : ℕ) → One (Checked m used)
-  pub check-number : (v : Verdict) → One (λ r. r ≡ verdicts.number_of v)
-  pub check-place : (v : Verdict) → One (λ r. r ≡ verdicts.place_of v)
+  pub check-number : (v : Result ℕ Refusal) → One (λ r. r ≡ answer_number v)
+  pub check-place : (v : Result ℕ Refusal) → One (λ r. r ≡ answer_place v)
   -- find
   pub search : (m : List ℕ) (used : ℕ) (w : Window) (l : List ℕ) → OneSearch (Searched m used w l)
   pub search-input : (i l : List ℕ) → OneSearch (SearchedInput i l)
-  pub search-number : (a : SearchAnswer) → One (λ r. r ≡ searches.number_of a)
-  pub search-place : (a : SearchAnswer) → One (λ r. r ≡ searches.place_of a)
-  pub search-count : (a : SearchAnswer) → One (λ r. r ≡ count_of a)
-  pub search-blocks : (a : SearchAnswer) → One (λ r. r ≡ blocks_of a)
+  pub search-number : (a : Result Listed Refusal) → One (λ r. r ≡ answer_number a)
+  pub search-place : (a : Result Listed Refusal) → One (λ r. r ≡ answer_place a)
+  pub search-count : (a : Result Listed Refusal) → One (λ r. r ≡ count_of a)
+  pub search-blocks : (a : Result Listed Refusal) → One (λ r. r ≡ blocks_of a)
   pub checked-length : (m : List ℕ) (used : ℕ) → One (λ r. r ≡ checked_length m used)
   -- view
   pub view : (bytes : Bor (List ℕ)) (used : ℕ) → One (Viewed bytes used)
@@ -88,11 +88,11 @@ pub record OneAnswer : Type 0 where
   pub add : (m : List ℕ) (used : ℕ) (j : List ℕ) (e : ℕ) (o : List ℕ) → OneEdit (Added m used j e o)
   pub remove : (m : List ℕ) (used : ℕ) (j : List ℕ) (e s : ℕ) → OneEdit (Removed m used j e s)
   pub reinstate : (m : List ℕ) (used : ℕ) (j : List ℕ) (e s : ℕ) → OneEdit (Reinstated m used j e s)
-  pub edit-number : (a : EditAnswer) → One (λ r. r ≡ number_of a)
-  pub edit-place : (a : EditAnswer) → One (λ r. r ≡ place_of a)
-  pub edit-before : (a : EditAnswer) → One (λ r. r ≡ before_of a)
-  pub edit-slot : (a : EditAnswer) → One (λ r. r ≡ slot_no a)
-  pub edit-length : (a : EditAnswer) → One (λ r. r ≡ length_of a)
+  pub edit-number : (a : Result EditAnswer Refusal) → One (λ r. r ≡ answer_number a)
+  pub edit-place : (a : Result EditAnswer Refusal) → One (λ r. r ≡ answer_place a)
+  pub edit-before : (a : Result EditAnswer Refusal) → One (λ r. r ≡ before_of a)
+  pub edit-slot : (a : Result EditAnswer Refusal) → One (λ r. r ≡ slot_no a)
+  pub edit-length : (a : Result EditAnswer Refusal) → One (λ r. r ≡ length_of a)
   -- taffrail
   pub taffrail-check : (m : List ℕ) (used : ℕ) → One (λ (r : CCheckResult). CChecked m used r.number r.place)
   pub taffrail-search : (m : List ℕ) (used : ℕ) (left bottom right top : ℤ) (l : List ℕ)

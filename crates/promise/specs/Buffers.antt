@@ -4,9 +4,10 @@
 --                         lengths
 --     TooShort st c       the call says 11: the buffer, or what a map may have at most, has no room for the object
 --     BytesBehind         the check answers the same for both; and so does every call, and leaves alike states, unless one of the buffers is too short for it
+use Rattle.std.specs.Prelude.{Err}
+use Rattle.refusals.specs.declared.Refusal.TheVariants.{NoRoom}
 use Rattle.std.specs.Prelude.{◌≡◌, ◌⊎◌}
 use Rattle.numbers.specs.Bytes.{Bytes}
-use Rattle.edit.specs.declared.EditAnswer.TheVariants.{Refused}
 use Rattle.accept.specs.Verdicts.{verdict}
 use Rattle.promise.specs.Runs.{State, Call, edited, outcome, step, map_of}
 
@@ -16,7 +17,7 @@ pub record Alike (st st' : State) : Type 0 where
   pub journal : st'.journal ≡ st.journal
 
 abbrev pub TooShort : State → Call → Type 0
-TooShort st c = (outcome st c).said ≡ edited (Refused 11 0)
+TooShort st c = (outcome st c).said ≡ edited (Err NoRoom)
 
 pub record BytesBehind : Type 0 where
   pub check : (st st' : State) → Alike st st' → verdict st'.map st'.used ≡ verdict st.map st.used

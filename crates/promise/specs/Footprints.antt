@@ -4,12 +4,12 @@
 --     Agree m m' p n       the n bytes from p are the same in m and m'
 --     size_bytes b, head_bytes b     the bytes of a symbol record's Size, and those that are read of an object, in 9 to 11 where b is true
 --     Footprint b h m'     m' agrees with m in those bytes; h has the chains of m
+use Rattle.std.specs.Prelude.{Ok}
 use Rattle.std.specs.Prelude.{ℕ, ◌+◌, ◌*◌, ◌≤◌, ◌<◌, Bool, true, cond, ◌≡◌, List, length, get_or}
 use Rattle.numbers.specs.Bytes.{u32_at}
 use Rattle.records.specs.Sizes.{header_size, map_limit, symbol_block_size, entry_size, block_cells}
 use Rattle.records.specs.Headers.{index_head, is_wide}
 use Rattle.chain.specs.Chains.{Links}
-use Rattle.accept.specs.declared.Verdict.TheVariants.{Accepted}
 use Rattle.judge.specs.Judging.{version_of}
 use Rattle.judge.specs.Rules.{family_for}
 use Rattle.accept.specs.Verdicts.{verdict}
@@ -37,4 +37,4 @@ pub record Footprint (b : Bool) {m : List ℕ} {used n : ℕ} (h : MeetsOf (fami
 abbrev pub DependsOnly : Type 0
 DependsOnly =
     (m m' : List ℕ) (used used' n : ℕ) (h : Meets m used n) → Footprint (is_wide (version_of m)) h m' → used ≤ used' → used' ≤ map_limit → used' ≤ length m'
-    → (verdict m' used' ≡ Accepted n) × Links m' index_head h.blocks
+    → (verdict m' used' ≡ Ok n) × Links m' index_head h.blocks

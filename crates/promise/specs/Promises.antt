@@ -2,6 +2,8 @@
 -- proved in proofs/ under the same name in small letters. A state is good when its map is accepted and of OCAD 6 to 8, and its journal well formed for it; on a map
 -- of 9 to 11 no edit is done (`WideStays`). In a run calls may carry any numbers and bytes that a machine can send, and between two of them the host may put the
 -- map into another buffer (`Fair`).
+use Rattle.std.specs.Prelude.{Ok, Err}
+use Rattle.refusals.specs.declared.Refusal.TheVariants.{BadWindow, WideMap, ShortList}
 use Rattle.std.specs.Prelude.{ℕ, ◌+◌, ◌-◌, ◌*◌, ◌/◌, ◌≤◌, ◌<◌, true, false, ◌≡◌, ◌↔◌, List, [], ◌∷◌, ◌++◌, map, length, get_or, take, drop}
 use Rattle.numbers.specs.Bytes.{Bytes}
 use Rattle.numbers.specs.Ranges.{share}
@@ -15,13 +17,10 @@ use Rattle.wide.specs.Slots.{wide_slot_of, wide_live}
 use Rattle.chain.specs.Chains.{block}
 use Rattle.judge.specs.Rules.{wide, slot_at, slot_at_of}
 use Rattle.judge.specs.Judging.{version_of}
-use Rattle.find.specs.declared.SearchAnswer.TheVariants.{Found, Short, Refused}
 use Rattle.find.specs.Searches.{In}
 use Rattle.journal.specs.Journals.{is_held, records_of}
-use Rattle.accept.specs.declared.Verdict.TheVariants.{Accepted}
 use Rattle.accept.specs.Verdicts.{verdict}
 use Rattle.edit.specs.declared.EditAnswer.TheVariants.{Before}
-use Rattle.edit.specs.declared.EditAnswer.TheVariants as edits
 use Rattle.accept.specs.Slots.{slot_in}
 use Rattle.change.specs.Slots.{resym, object_sym}
 use Rattle.add.specs.Adds.{slot_added}
@@ -98,9 +97,9 @@ pub record SearchSays (wanted : ℕ → Type 0) (st : State) (w : Window) (l : L
   pub exactly : (s : ℕ) → In s slots ↔ wanted s
   pub ascending : (i k : ℕ) → i < k → k < length slots → get_or slots i 0 < get_or slots k 0
   pub finds : window_good w ≡ true → length slots ≤ length l
-      → (outcome st (search w l)).said ≡ searched (Found (length slots) (blocks_in st.map st.used)) (slots ++ drop (length slots) l)
-  pub short : window_good w ≡ true → length l < length slots → (outcome st (search w l)).said ≡ searched (Short (length slots)) l
-  pub refused : window_good w ≡ false → (outcome st (search w l)).said ≡ searched (Refused 8 0) l
+      → (outcome st (search w l)).said ≡ searched (Ok (record { count = length slots; blocks = blocks_in st.map st.used })) (slots ++ drop (length slots) l)
+  pub short : window_good w ≡ true → length l < length slots → (outcome st (search w l)).said ≡ searched (Err (ShortList (length slots))) l
+  pub refused : window_good w ≡ false → (outcome st (search w l)).said ≡ searched (Err BadWindow) l
 
 abbrev pub Wanted : State → Window → ℕ → Type 0
 Wanted st w s = (is_live_in st s ≡ true) × (meets_window (sides_of (content_of st.map s).slot) w ≡ true)
@@ -116,15 +115,15 @@ pub record WideWanted (m : List ℕ) (n : ℕ) (w : Window) (s : ℕ) : Type 0 w
 
 abbrev pub WideSearchFinds : Type 0
 WideSearchFinds =
-    (st : State) (w : Window) (l : List ℕ) (n : ℕ) → verdict st.map st.used ≡ Accepted n → is_wide (version_of st.map) ≡ true
+    (st : State) (w : Window) (l : List ℕ) (n : ℕ) → verdict st.map st.used ≡ Ok n → is_wide (version_of st.map) ≡ true
     → SearchSays (WideWanted st.map n w) st w l
 
 -- ---- and so it lists an added object, in every window that the least rectangle over its pairs meets, unless the list is shorter than the count
 abbrev pub Lists : ℕ → List ℕ → Said → Type 0
 Lists s l (edited a) = ⊥
-Lists s l (searched (Found c b) after) = In s (take c after)
-Lists s l (searched (Short c) after) = length l < c
-Lists s l (searched (Refused n p) after) = ⊥
+Lists s l (searched (Ok f) after) = In s (take f.count after)
+Lists s l (searched (Err (ShortList c)) after) = length l < c
+Lists s l (searched (Err x) after) = ⊥
 
 abbrev pub AddedIsFound : Type 0
 AddedIsFound =
@@ -166,7 +165,7 @@ NeverActsAgain =
 abbrev pub RepeatIsTold : Type 0
 RepeatIsTold =
     (st : State) (c : Call) (xs : List Event) → Good st → Sent c → is_done st c ≡ true → Fair (step st c) xs
-    → (outcome (run (step st c) xs) c).said ≡ edited (Before (slot_said (outcome st c).said) (run (step st c) xs).used)
+    → (outcome (run (step st c) xs) c).said ≡ edited (Ok (Before (slot_said (outcome st c).said) (run (step st c) xs).used))
 
 -- ---- and so the numbers of the edits done in a run, which are those of their records, are distinct from each other, and the first journal holds none of them
 abbrev pub numbers_in : State → List Event → List ℕ
@@ -196,11 +195,11 @@ pub record Untouched (st : State) (xs : List Event) : Type 0 where
   pub used : (run st xs).used ≡ st.used
   pub journal : (run st xs).journal ≡ st.journal
   pub none : done_in st xs ≡ []
-  pub told : (c : Call) → IsEdit c → (outcome (run st xs) c).said ≡ edited (edits.Refused 17 0)
+  pub told : (c : Call) → IsEdit c → (outcome (run st xs) c).said ≡ edited (Err WideMap)
 
 abbrev pub WideStays : Type 0
 WideStays =
-    (st : State) (xs : List Event) (n : ℕ) → verdict st.map st.used ≡ Accepted n → is_wide (version_of st.map) ≡ true → Fair st xs → Untouched st xs
+    (st : State) (xs : List Event) (n : ℕ) → verdict st.map st.used ≡ Ok n → is_wide (version_of st.map) ≡ true → Fair st xs → Untouched st xs
 
 -- ---- refusals and "done before" change nothing, and neither does a search
 abbrev pub NothingElse : Type 0
@@ -222,7 +221,7 @@ NoneRemoves s [] = Unit {0}
 NoneRemoves s (x ∷ xs) = (Removes s x → ⊥) × NoneRemoves s xs
 
 pub record BridgeStays (before now : State) (e s : ℕ) : Type 0 where
-  pub said : (outcome now (remove e s)).said ≡ edited (Before s now.used)
+  pub said : (outcome now (remove e s)).said ≡ edited (Ok (Before s now.used))
   pub unchanged : step now (remove e s) ≡ now
   pub live : is_live_in now s ≡ true
   pub content : content_of now.map s ≡ content_of before.map s

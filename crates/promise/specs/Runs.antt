@@ -20,6 +20,9 @@
 --     Sent c              the arguments are what a machine can send: numbers of 32 bits, bytes
 --     HoldsMap st b       buffer b holds the map of st
 --     Fair st xs          what may happen between calls and what may not: calls carry what a machine can send, and a buffer that is handed in holds the map
+use Rattle.std.specs.Prelude.{Result, Ok, Err}
+use Rattle.refusals.specs.declared.Refusal.{Refusal}
+use Rattle.refusals.specs.Refusals.{answer_number}
 use Rattle.std.specs.Prelude.{ℕ, ◌+◌, ◌^◌, ◌<◌, Bool, true, false, cond, ◌&&◌, List, [], ◌∷◌, ◌++◌, ◌≡◌, eqb, length, take, drop}
 use Rattle.std.proofs.lemmas.List.Edits.{sets}
 use Rattle.numbers.specs.Bytes.{Bytes, bytes_of}
@@ -32,11 +35,9 @@ use Rattle.records.specs.Headers.{index_head, is_wide}
 use Rattle.chain.specs.Chains.{place}
 use Rattle.judge.specs.Rules.{slot_at}
 use Rattle.records.specs.Journals.{record_for}
-use Rattle.accept.specs.declared.Verdict.{Verdict}
-use Rattle.accept.specs.declared.Verdict.TheVariants as verdicts
 use Rattle.judge.specs.Judging.{version_of}
 use Rattle.accept.specs.Verdicts.{verdict}
-use Rattle.find.specs.declared.SearchAnswer.{SearchAnswer}
+use Rattle.find.specs.declared.Listed.{Listed}
 use Rattle.find.specs.Searches.{answer_of, list_after}
 use Rattle.journal.specs.Journals.{well_formed}
 use Rattle.edit.specs.declared.EditAnswer.{EditAnswer}
@@ -46,11 +47,11 @@ use Rattle.edit.specs.Edits as edits
 use Rattle.add.specs.Objects.{block_for}
 use Rattle.add.specs.Adds.{added, is_free, slot_added}
 use Rattle.change.specs.Changes.{removed, reinstated}
-use Rattle.edit.specs.Edits.{number_of, before_of, slot_no, length_of}
+use Rattle.edit.specs.Edits.{before_of, slot_no, length_of}
 
-abbrev pub accepted_blocks : Verdict → ℕ
-accepted_blocks (verdicts.Accepted n) = n
-accepted_blocks (verdicts.Refused n p) = 0
+abbrev pub accepted_blocks : Result ℕ Refusal → ℕ
+accepted_blocks (Ok n) = n
+accepted_blocks (Err x) = 0
 
 abbrev pub blocks_in : List ℕ → ℕ → ℕ
 blocks_in m used = accepted_blocks (verdict m used)
@@ -67,8 +68,8 @@ pub data Call : Type 0 where
   search : Window → List ℕ → Call
 
 pub data Said : Type 0 where
-  edited : EditAnswer → Said
-  searched : SearchAnswer → List ℕ → Said
+  edited : Result EditAnswer Refusal → Said
+  searched : Result Listed Refusal → List ℕ → Said
 
 pub record CallOutcome : Type 0 where
   pub said : Said
@@ -90,7 +91,7 @@ outcome st (search w l) =
     }
 
 abbrev pub says_done : Said → Bool
-says_done (edited a) = eqb (number_of a) 0 && eqb (before_of a) 0
+says_done (edited a) = eqb (answer_number a) 0 && eqb (before_of a) 0
 says_done (searched a l) = false
 
 abbrev pub slot_said : Said → ℕ
@@ -176,7 +177,7 @@ content_of m s =
 
 pub record Good (st : State) : Type 0 where
   pub blocks : ℕ
-  pub accepted : verdict st.map st.used ≡ verdicts.Accepted blocks
+  pub accepted : verdict st.map st.used ≡ Ok blocks
   pub narrow : is_wide (version_of st.map) ≡ false
   pub well : well_formed st.journal st.map blocks ≡ true
   pub map-bytes : Bytes st.map

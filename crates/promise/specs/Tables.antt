@@ -4,13 +4,13 @@
 --     empty_journal    a journal with room for two records
 --     first_add        the outcome of adding the object to the empty map, in a buffer that holds `rest` behind it
 --     second_add       the outcome of adding it once more
+use Rattle.std.specs.Prelude.{Ok}
 use Rattle.std.specs.Prelude.{ℕ, ◌≤◌, true, false, List, [], ◌∷◌, ◌++◌, map, ◌≡◌, pos, negsuc, length, replicate}
 use Rattle.numbers.specs.Bytes.{Bytes}
 use Rattle.numbers.specs.Coordinates.{value_of}
 use Rattle.slots.specs.declared.Slot.{Slot}
 use Rattle.windows.specs.declared.Window.{Window}
 use Rattle.windows.specs.Windows.{sides_of, meets_window}
-use Rattle.accept.specs.declared.Verdict.TheVariants.{Accepted}
 use Rattle.judge.specs.Judging.{version_of}
 use Rattle.accept.specs.Verdicts.{verdict}
 use Rattle.add.specs.Objects.{slot_for}
@@ -48,12 +48,12 @@ pub record Table : Type 0 where
   pub found : meets_window (sides_of point_slot) (square 5 10) ≡ true
   pub missed : meets_window (sides_of point_slot) (square 6 10) ≡ false
   -- the empty map of 48 bytes is accepted; its slot for the object; the length after one add; and after a second
-  pub accepted : verdict empty7 48 ≡ Accepted 0
+  pub accepted : verdict empty7 48 ≡ Ok 0
   pub slot : slot_for 7 point_object 48 ≡ point_slot
   pub first : new_length empty7 48 0 point_object ≡ 6236
-  pub second : (m : List ℕ) → verdict m 48 ≡ Accepted 0 → version_of m ≡ 7 → 6236 ≤ length m → new_length (added_map m 48 0 point_object) 6236 1 point_object ≡ 6276
+  pub second : (m : List ℕ) → verdict m 48 ≡ Ok 0 → version_of m ≡ 7 → 6236 ≤ length m → new_length (added_map m 48 0 point_object) 6236 1 point_object ≡ 6276
   -- and so the two adds answer, in every buffer with room
-  pub first-answer : (rest : List ℕ) → 6236 ≤ length (empty7 ++ rest) → (first_add rest).answer ≡ Done 0 6236
-  pub second-answer : (rest : List ℕ) → 6276 ≤ length (empty7 ++ rest) → (second_add rest).answer ≡ Done 1 6276
+  pub first-answer : (rest : List ℕ) → 6236 ≤ length (empty7 ++ rest) → (first_add rest).answer ≡ Ok (Done 0 6236)
+  pub second-answer : (rest : List ℕ) → 6276 ≤ length (empty7 ++ rest) → (second_add rest).answer ≡ Ok (Done 1 6276)
   -- a run can begin: the empty map with its journal, in every buffer of bytes, is a good state. So the promises over runs, which begin in one, say something
   pub good : (rest : List ℕ) → Bytes rest → Good (record { map = empty7 ++ rest; used = 48; journal = empty_journal })

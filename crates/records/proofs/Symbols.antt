@@ -1,10 +1,10 @@
 -- The laws of a symbol record's Size. Assumes nothing.
 use Prim.Native.Nat.{ℕ, ◌≤◌, ◌<◌}
-use mathlib.Core.Bool.{false}
+use mathlib.Core.Bool.{false, ◌&&◌}
 use mathlib.Core.Path.{◌≡◌}
 use mathlib.Core.Logic.{⊎_elim}
 use native.Mathlib.Omega.{arith}
-use lib.Dec.{ltb}
+use lib.Dec.{leb, ltb}
 use borrow.Author.Tests.{lt-ltb, le-ltb, le-leb, lt-leb}
 use Rattle.numbers.proofs.Coordinates.{signed_low, signed_high, lt-or-ge}
 use Rattle.records.specs.Symbols.{size_good}
@@ -21,3 +21,11 @@ size-large n h =
     (λ l. rw (signed_low 32768 n l, lt-ltb n 32768 l) (le-leb 348 n h))
     (λ l. rw (signed_high 32768 n l, le-ltb n 32768 l))
     (lt-or-ge n 32768)
+
+-- both, as the code tests them
+pub size_is : (n : ℕ) → size_good n ≡ leb 348 n && ltb n 32768
+size_is n =
+    ⊎_elim
+    (λ l. rw (size_small n l, lt-leb 348 n l))
+    (λ l. rw (size-large n l, le-leb 348 n l))
+    (lt-or-ge n 348)

@@ -3,7 +3,9 @@
 --     Headers       the header's fields
 --     Symbols       a symbol record's Size
 --     Journals      a journal record's fields and its bytes
+--     Kinds         the kinds of edits and their numbers
 pub mod Sizes
 pub mod Headers
 pub mod Symbols
 pub mod Journals
+pub mod Kinds

@@ -9,11 +9,12 @@ ghost use Rattle.records.specs.Sizes.{header_size, journal_record_size};
 ghost use Rattle.records.specs.Headers.{header_of, part_of, pair_good, is_wide, file_type_good, version_good};
 ghost use Rattle.records.specs.Symbols.{size_good};
 ghost use Rattle.records.specs.Journals.{record_of, record_bytes, record_for, shape_good, is_unused};
+ghost use Rattle.records.specs.Kinds.{code_of, Decodes};
 
 use numbers::{put_u32_at, u16_at, u32_at};
 
 // A part of a map that the header names: where it starts and how many bytes it has.
-#[derive(Clone, Copy)]
+#[derive(Clone, Copy, Debug, PartialEq, Eq)]
 pub struct Part {
     pub at: u32,
     pub size: u32,
@@ -33,7 +34,7 @@ impl Part {
 }
 
 // What is read of a map's header, beside the two first links.
-#[derive(Clone, Copy)]
+#[derive(Clone, Copy, Debug, PartialEq, Eq)]
 pub struct Header {
     pub mark: u16,
     pub section: u16,
@@ -66,6 +67,7 @@ impl Header {
     pub const INFO: usize = 24;
 
     // The header of a map.
+    #[tactic(auto, unfolding(crate::specs::Headers::header_of))]
     pub fn of(m: &[u8]) -> Header
         requires { header_size ≤ length m.now }
         ensures { result ≡ header_of m.now }
@@ -82,55 +84,49 @@ impl Header {
 }
 
 // The accepted pairs of version and section mark.
+#[tactic(auto, using(std::proofs::lemmas::Bool::Decides::nat_tests), unfolding(crate::specs::Headers::pair_good))]
 fn pair_good(version: u16, section: u16) -> bool
     ensures { result ≡ pair_good version section }
 {
-    match version {
-        6 => section == 0,
-        7 => section == 7,
-        8 => section == 2 || section == 3,
-        _ => false,
-    }
+    matches!((version, section), (6, 0) | (7, 7) | (8, 2 | 3))
 }
 
 // Whether a map of this version has the wide layout, that of 9 to 11.
+#[tactic(auto, using(std::proofs::lemmas::Bool::Decides::nat_tests), unfolding(crate::specs::Headers::is_wide))]
 pub fn is_wide(version: u16) -> bool
     ensures { result ≡ is_wide version }
 {
-    if version < 9 {
-        return false;
-    }
-    version <= 11
+    (9..=11).contains(&version)
 }
 
 // The file types that the documents list: 0 and 1, and 3 in 9 and 10, 8 in 11.
+#[tactic(auto, using(std::proofs::lemmas::Bool::Decides::nat_tests), unfolding(crate::specs::Headers::file_type_good))]
 fn file_type_good(version: u16, kind: u8) -> bool
     ensures { result ≡ file_type_good version kind }
 {
-    if kind <= 1 {
-        return true;
+    match version {
+        11 => matches!(kind, 0 | 1 | 8),
+        _ => matches!(kind, 0 | 1 | 3),
     }
-    if version == 11 {
-        return kind == 8;
-    }
-    kind == 3
 }
 
 // Whether the version is accepted: with its section mark in 6 to 8, with its file type in 9 to 11.
+#[tactic(auto, using(std::proofs::lemmas::Bool::Decides::nat_tests), unfolding(crate::specs::Headers::version_good))]
 pub fn version_good(h: Header) -> bool
     ensures { result ≡ version_good h }
 {
     if is_wide(h.version) {
-        return file_type_good(h.version, h.file_type);
+        file_type_good(h.version, h.file_type)
+    } else {
+        pair_good(h.version, h.section)
     }
-    pair_good(h.version, h.section)
 }
 
 // A link of a chain: where the next block starts, in so many bytes.
 pub const LINK: usize = 4;
 
 // A symbol block, by where it starts: a link, then 256 entries.
-#[derive(Clone, Copy)]
+#[derive(Clone, Copy, Debug, PartialEq, Eq)]
 pub struct SymbolBlock {
     pub at: usize,
 }
@@ -158,17 +154,15 @@ impl SymbolBlock {
 }
 
 // Whether a symbol record's Size, read as signed, is enough.
+#[tactic(auto, using(crate::proofs::Symbols::size_is, std::proofs::lemmas::Bool::Decides::nat_tests))]
 pub fn size_good(size: u16) -> bool
     ensures { result ≡ size_good size }
 {
-    if size < SymbolRecord::SIZE {
-        return false;
-    }
-    size < 32768
+    (SymbolRecord::SIZE..32768).contains(&size)
 }
 
 // A symbol record, by its Size.
-#[derive(Clone, Copy)]
+#[derive(Clone, Copy, Debug, PartialEq, Eq)]
 pub struct SymbolRecord {
     pub size: u16,
 }
@@ -178,8 +172,44 @@ impl SymbolRecord {
     pub const SIZE: u16 = 348;
 }
 
-// A record of a journal. `kind` is the byte and the three zeros behind it, `zeros` the last four bytes.
-#[derive(Clone, Copy)]
+// What an edit does.
+#[derive(Clone, Copy, Debug, PartialEq, Eq)]
+pub enum EditKind {
+    Add = 1,
+    Remove = 2,
+    Reinstate = 3,
+}
+
+// A number that stands for no kind of edit.
+#[derive(Clone, Copy, Debug, PartialEq, Eq)]
+pub struct UnknownKind(pub u32);
+
+impl TryFrom<u32> for EditKind {
+    type Error = UnknownKind;
+
+    ghost try_from_gives = { Decodes };
+
+    #[tactic(auto, using(std::proofs::lemmas::Bool::Decides::nat_tests), unfolding(crate::specs::Journals::kind_good))]
+    fn try_from(code: u32) -> Result<Self, UnknownKind> {
+        match code {
+            1 => Ok(EditKind::Add),
+            2 => Ok(EditKind::Remove),
+            3 => Ok(EditKind::Reinstate),
+            _ => Err(UnknownKind(code)),
+        }
+    }
+}
+
+impl From<EditKind> for u32 {
+    ghost from_gives = { λ kind n. n ≡ code_of kind };
+
+    fn from(kind: EditKind) -> u32 {
+        kind as u32
+    }
+}
+
+// A record of a journal. `kind` is the byte and the three zeros behind it, `zeros` the last four bytes: numbers, since a journal may hold any bytes.
+#[derive(Clone, Copy, Debug, Default, PartialEq, Eq)]
 pub struct JournalRecord {
     pub number: u32,
     pub kind: u32,
@@ -193,11 +223,11 @@ impl JournalRecord {
     // A journal is at most so long.
     pub const LIMIT: usize = 65536;
 
-    pub const ADD: u32 = 1;
+    pub const ADD: u32 = EditKind::Add as u32;
 
-    pub const REMOVE: u32 = 2;
+    pub const REMOVE: u32 = EditKind::Remove as u32;
 
-    pub const REINSTATE: u32 = 3;
+    pub const REINSTATE: u32 = EditKind::Reinstate as u32;
 
     // The record of a done edit.
     pub fn new(number: u32, kind: u32, slot: u32) -> JournalRecord
@@ -212,6 +242,7 @@ impl JournalRecord {
     }
 
     // The record at a place.
+    #[tactic(auto, unfolding(crate::specs::Journals::record_of))]
     pub fn at(j: &[u8], at: usize) -> JournalRecord
         requires { at + journal_record_size ≤ length j.now }
         ensures { result ≡ record_of j.now at }
@@ -225,6 +256,7 @@ impl JournalRecord {
     }
 
     // The 16 bytes, at the start of a part.
+    #[tactic(auto, unfolding(crate::specs::Journals::record_bytes, numbers::specs::Bytes::bytes_of))]
     pub fn put(self, part: &mut [u8])
         requires { journal_record_size ≤ length part.old }
         ensures { part.new ≡ sets part.old 0 (record_bytes self) }
@@ -236,34 +268,18 @@ impl JournalRecord {
     }
 
     // Whether the number is not 0, the kind is known and the zeros are zeros.
+    #[tactic(auto, using(std::proofs::lemmas::Bool::Decides::nat_tests), unfolding(crate::specs::Journals::shape_good, crate::specs::Journals::kind_good))]
     pub fn shape_good(self) -> bool
         ensures { result ≡ shape_good self }
     {
-        if self.number == 0 {
-            return false;
-        }
-        if self.kind < 1 {
-            return false;
-        }
-        if 3 < self.kind {
-            return false;
-        }
-        self.zeros == 0
+        self.number != 0 && EditKind::try_from(self.kind).is_ok() && self.zeros == 0
     }
 
     // Whether all its bytes are zero.
+    #[tactic(auto, using(std::proofs::lemmas::Bool::Decides::nat_tests), unfolding(crate::specs::Journals::is_unused))]
     pub fn is_unused(self) -> bool
         ensures { result ≡ is_unused self }
     {
-        if self.number != 0 {
-            return false;
-        }
-        if self.kind != 0 {
-            return false;
-        }
-        if self.slot != 0 {
-            return false;
-        }
-        self.zeros == 0
+        self == JournalRecord::default()
     }
 }

@@ -1,7 +1,7 @@
 // Slots, the index blocks that have them, and the objects that they point to: a type for each, with its size and small constructors.
 #![tactic(auto)]
 
-ghost use Rattle.std.specs.Prelude.{◌≡◌, cond, ◌+◌, ◌-◌, ◌*◌, ◌≤◌, ◌<◌, length};
+ghost use Rattle.std.specs.Prelude.{◌≡◌, ◌+◌, ◌-◌, ◌*◌, ◌≤◌, ◌<◌, length};
 ghost use Rattle.std.proofs.lemmas.List.Edits.{sets};
 ghost use Rattle.records.specs.Sizes.{slot_size, object_header_size, block_cells, link_size};
 ghost use Rattle.slots.specs.Slots.{slot_of, slot_bytes, state_of, found_at, bytes_in, bytes_in_range, len_of};
@@ -11,7 +11,7 @@ use numbers::{put_u16_at, put_u32_at, u16_at, u32_at};
 use records::LINK;
 
 // An index block, by where it starts: a link, then 256 slots.
-#[derive(Clone, Copy)]
+#[derive(Clone, Copy, Debug, PartialEq, Eq)]
 pub struct IndexBlock {
     pub at: usize,
 }
@@ -46,7 +46,7 @@ impl IndexBlock {
     }
 }
 
-#[derive(Clone, Copy)]
+#[derive(Clone, Copy, Debug, PartialEq, Eq)]
 pub enum State {
     Free,
     Erased,
@@ -54,7 +54,7 @@ pub enum State {
 }
 
 // A slot of an index block. Coordinates are raw; Sym is kept as its sixteen bits.
-#[derive(Clone, Copy)]
+#[derive(Clone, Copy, Debug, PartialEq, Eq)]
 pub struct Slot {
     pub left: u32,
     pub bottom: u32,
@@ -66,7 +66,7 @@ pub struct Slot {
 }
 
 // What the slot reader answers: the fields, which of the three states, and where in the file the slot is.
-#[derive(Clone, Copy)]
+#[derive(Clone, Copy, Debug, PartialEq, Eq)]
 pub struct Found {
     pub slot: Slot,
     pub state: State,
@@ -81,6 +81,7 @@ impl Slot {
     pub const SYM: usize = 22;
 
     // The slot at a place.
+    #[tactic(auto, unfolding(crate::specs::Slots::slot_of))]
     pub fn at(m: &[u8], at: usize) -> Slot
         requires { at + slot_size ≤ length m.now }
         ensures { result ≡ slot_of m.now at }
@@ -97,6 +98,7 @@ impl Slot {
     }
 
     // The 24 bytes, at the start of a part. Every byte behind them is kept.
+    #[tactic(auto, unfolding(crate::specs::Slots::slot_bytes, numbers::specs::Bytes::bytes_of))]
     pub fn put(self, part: &mut [u8])
         requires { slot_size ≤ length part.old }
         ensures { part.new ≡ sets part.old 0 (slot_bytes self) }
@@ -111,72 +113,67 @@ impl Slot {
     }
 
     // Free, erased or live.
+    #[tactic(auto, using(std::proofs::lemmas::Bool::Decides::nat_tests), unfolding(crate::specs::Slots::state_of))]
     pub fn state(self) -> State
         ensures { result ≡ state_of self }
     {
-        if self.len == 0 {
-            return State::Free;
+        match (self.len, self.sym) {
+            (0, _) => State::Free,
+            (_, 0) => State::Erased,
+            _ => State::Live,
         }
-        if self.sym == 0 {
-            return State::Erased;
-        }
-        State::Live
     }
 }
 
 // The slot reader.
+#[tactic(auto, unfolding(crate::specs::Slots::found_at))]
 pub fn read_slot(m: &[u8], at: usize) -> Found
     requires { at + slot_size ≤ length m.now }
     ensures { result ≡ found_at m.now at }
 {
     let slot = Slot::at(m, at);
-    let state = slot.state();
     Found {
         slot,
-        state,
+        state: slot.state(),
         place: at,
     }
 }
 
-// The first of two numbers, or the second.
-fn either(is: bool, a: usize, b: usize) -> usize
-    ensures { result ≡ cond is a b }
-{
-    if is { a } else { b }
-}
-
-// The bytes of a slot's object: those that Len leaves out, and those that it counts. Nothing but two numbers hangs on the version, so that in a loop over
-// slots there is no branch on it.
+// The bytes of a slot's object: those that Len leaves out, and those that it counts.
+#[tactic(auto, using(std::proofs::lemmas::Bool::Decides::nat_tests), unfolding(crate::specs::Slots::bytes_in))]
 pub fn bytes_in(version: u16, len: u16) -> usize
     ensures { result ≡ bytes_in version len }
 {
-    let pairs = version == 8;
-    either(pairs, ObjectHeader::SIZE, 0) + either(pairs, ObjectHeader::PAIR, 1) * (len as usize)
+    if version == 8 {
+        ObjectHeader::SIZE + ObjectHeader::PAIR * usize::from(len)
+    } else {
+        usize::from(len)
+    }
 }
 
 // Whether an object's bytes lie in the range that objects have: room for one pair at least, and for as many as a Len may say in 8 at most.
+#[tactic(auto, using(std::proofs::lemmas::Bool::Decides::nat_tests), unfolding(crate::specs::Slots::bytes_in_range))]
 pub fn bytes_in_range(bytes: usize) -> bool
     ensures { result ≡ bytes_in_range bytes }
 {
-    if bytes < ObjectHeader::SIZE + ObjectHeader::PAIR {
-        return false;
-    }
-    bytes <= ObjectHeader::MOST_BYTES
+    (ObjectHeader::SIZE + ObjectHeader::PAIR..=ObjectHeader::MOST_BYTES).contains(&bytes)
 }
 
 // The Len of an object of k pairs.
+#[tactic(auto, using(std::proofs::lemmas::Bool::Decides::nat_tests), unfolding(crate::specs::Slots::len_of))]
 pub fn len_of(version: u16, k: usize) -> usize
     requires { k ≤ 131070 }
     ensures { result ≡ len_of version k }
 {
     if version == 8 {
-        return k;
+        k
+    } else {
+        ObjectHeader::SIZE + ObjectHeader::PAIR * k
     }
-    ObjectHeader::SIZE + ObjectHeader::PAIR * k
 }
 
 // What is read of an object's header.
-#[derive(Clone, Copy)]
+#[derive(Clone, Copy, Debug, PartialEq, Eq)]
 pub struct ObjectHeader {
     pub sym: u16,
     pub kind: u8,
@@ -196,6 +193,7 @@ impl ObjectHeader {
     pub const MOST_BYTES: usize = 262176;
 
     // The header of the object that starts a part.
+    #[tactic(auto, unfolding(crate::specs::Objects::object_of))]
     pub fn of(part: &[u8]) -> ObjectHeader
         requires { object_header_size ≤ length part.now }
         ensures { result ≡ object_of part.now }
@@ -210,11 +208,9 @@ impl ObjectHeader {
 }
 
 // Whether an object's type is 1 to 5.
+#[tactic(auto, using(std::proofs::lemmas::Bool::Decides::nat_tests), unfolding(crate::specs::Objects::type_good))]
 pub fn type_good(kind: u8) -> bool
     ensures { result ≡ type_good kind }
 {
-    if kind < 1 {
-        return false;
-    }
-    kind <= 5
+    (1..=5).contains(&kind)
 }

@@ -5,14 +5,14 @@
 --     Wrote a ..             the number that is returned and the four numbers that are written are those of an edit's answer a
 --     CEdited o ..           of an edit whose outcome is o, with the map m and the journal j afterwards
 --     CAdded, CRemoved, CReinstated     of the three edits
-use Rattle.std.specs.Prelude.{ℕ, ◌≡◌, List, ℤ, length}
+use Rattle.std.specs.Prelude.{ℕ, ◌≡◌, List, ℤ, length, Result}
+use Rattle.refusals.specs.declared.Refusal.{Refusal}
+use Rattle.refusals.specs.Refusals.{answer_number, answer_place}
 use Rattle.windows.specs.declared.Window.{Window}
-use Rattle.accept.specs.Verdicts as verdicts
 use Rattle.accept.specs.Verdicts.{verdict}
-use Rattle.find.specs.Searches as searches
 use Rattle.find.specs.Searches.{answer_of, list_after, count_of, blocks_of}
 use Rattle.edit.specs.declared.EditAnswer.{EditAnswer}
-use Rattle.edit.specs.Edits.{Outcome, number_of, place_of, before_of, slot_no, length_of}
+use Rattle.edit.specs.Edits.{Outcome, before_of, slot_no, length_of}
 use Rattle.add.specs.Adds.{added}
 use Rattle.change.specs.Changes.{removed, reinstated}
 
@@ -20,19 +20,19 @@ abbrev pub window_from : ℤ → ℤ → ℤ → ℤ → Window
 window_from l b r t = record { left = l; bottom = b; right = r; top = t }
 
 abbrev pub CChecked : List ℕ → ℕ → ℕ → ℕ → Type 0
-CChecked m used number place = (number ≡ verdicts.number_of (verdict m used)) × (place ≡ verdicts.place_of (verdict m used))
+CChecked m used number place = (number ≡ answer_number (verdict m used)) × (place ≡ answer_place (verdict m used))
 
 abbrev pub CSearched : List ℕ → ℕ → Window → List ℕ → ℕ → ℕ → ℕ → ℕ → List ℕ → Type 0
 CSearched m used w l number place count blocks after =
-    (number ≡ searches.number_of (answer_of m used w (length l)))
-    × (place ≡ searches.place_of (answer_of m used w (length l)))
+    (number ≡ answer_number (answer_of m used w (length l)))
+    × (place ≡ answer_place (answer_of m used w (length l)))
     × (count ≡ count_of (answer_of m used w (length l)))
     × (blocks ≡ blocks_of (answer_of m used w (length l)))
     × (after ≡ list_after m used w l)
 
-pub record Wrote (a : EditAnswer) (number place before slot new_length : ℕ) : Type 0 where
-  pub is_number : number ≡ number_of a
-  pub is-place : place ≡ place_of a
+pub record Wrote (a : Result EditAnswer Refusal) (number place before slot new_length : ℕ) : Type 0 where
+  pub is_number : number ≡ answer_number a
+  pub is-place : place ≡ answer_place a
   pub is-before : before ≡ before_of a
   pub is-slot : slot ≡ slot_no a
   pub is-length : new_length ≡ length_of a

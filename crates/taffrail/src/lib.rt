@@ -1,9 +1,11 @@
 // What the C interface does, for Rattle: its five calls, with their names and numbers. `taffrail_c` exports them. Every call takes any bytes and numbers at
-// all, returns document 01's number, and writes every out parameter, on a refusal too.
+// all, returns document 01's number, and writes every out parameter, on a refusal too: C has no Result, and these parameters are its interface.
 #![tactic(auto)]
 
 ghost use Rattle.taffrail.specs.Calls.{window_from, CChecked, CSearched, Wrote, CAdded, CRemoved, CReinstated};
 
+use edit::EditAnswer;
+use refusals::Refusal;
 use windows::Window;
 
 // The check.
@@ -11,8 +13,8 @@ pub fn taffrail_check(map: &[u8], used: usize, place: &mut u32) -> u32
     ensures { CChecked map.now used result place.new }
 {
     let v = accept::check(map, used);
-    *place = accept::place(v);
-    accept::number(v)
+    *place = refusals::place(&v);
+    refusals::number(&v)
 }
 
 // The search.
@@ -38,27 +40,27 @@ pub fn taffrail_search(
         top,
     };
     let a = find::search(map, used, w, list);
-    *place = find::place(a);
-    *count = find::count(a);
-    *blocks = find::blocks(a);
-    find::number(a)
+    *place = refusals::place(&a);
+    *count = find::count(&a);
+    *blocks = find::blocks(&a);
+    refusals::number(&a)
 }
 
 // What an edit answered goes to the out parameters.
 fn tell(
-    a: edit::EditAnswer,
+    a: &Result<EditAnswer, Refusal>,
     place: &mut u32,
     before: &mut u32,
     slot: &mut u32,
     new_length: &mut u32,
 ) -> u32
-    ensures { Wrote a result place.new before.new slot.new new_length.new }
+    ensures { Wrote a.now result place.new before.new slot.new new_length.new }
 {
-    *place = edit::place(a);
+    *place = refusals::place(a);
     *before = edit::before(a);
     *slot = edit::slot(a);
     *new_length = edit::length(a);
-    edit::number(a)
+    refusals::number(a)
 }
 
 // Add an object.
@@ -77,7 +79,7 @@ pub fn taffrail_add(
         place.new before.new slot.new new_length.new map.new journal.new }
 {
     let a = add::add(map, used, journal, edit, object);
-    tell(a, place, before, slot, new_length)
+    tell(&a, place, before, slot, new_length)
 }
 
 // Remove the object of a slot.
@@ -96,7 +98,7 @@ pub fn taffrail_remove(
         place.new before.new slot.new new_length.new map.new journal.new }
 {
     let a = change::remove(map, used, journal, edit, at);
-    tell(a, place, before, slot, new_length)
+    tell(&a, place, before, slot, new_length)
 }
 
 // Reinstate the object of a slot.
@@ -115,5 +117,5 @@ pub fn taffrail_reinstate(
         place.new before.new slot.new new_length.new map.new journal.new }
 {
     let a = change::reinstate(map, used, journal, edit, at);
-    tell(a, place, before, slot, new_length)
+    tell(&a, place, before, slot, new_length)
 }

@@ -1,209 +1,131 @@
-// What is set up for the calls: orders 1 to 14.
-use super::Order;
-use numbers::{put_u16_at, put_u32_at, signed32_of};
+// The desk: what the orders have set up for the calls, and the calls.
+use super::buffer::{Buffer, sum};
+use super::order::{Edit, Order};
+use slots::ObjectHeader;
+use std::io;
+use windows::Window;
 
-// What the orders have set: how much of each buffer is lent or offered, the map's length, and the window.
-#[derive(Clone, Copy)]
-pub struct Desk {
-    pub map: usize,
+// The buffers, the map's length and the window.
+#[derive(Drop)]
+pub(super) struct Desk<'a> {
+    pub map: Buffer<'a, u8>,
     pub used: usize,
-    pub journal: usize,
-    pub object: usize,
-    pub list: usize,
-    pub left: i32,
-    pub bottom: i32,
-    pub right: i32,
-    pub top: i32,
+    pub journal: Buffer<'a, u8>,
+    pub object: Buffer<'a, u8>,
+    pub list: Buffer<'a, u32>,
+    pub window: Window,
 }
 
-// A byte over all of a part.
-fn fill(s: &mut [u8], v: u8) {
-    let mut i = 0;
-    while i < s.len() {
-        s[i] = v;
-        i += 1;
+impl<'a> Desk<'a> {
+    // One order.
+    pub fn obey(&mut self, rt: &impl Print, order: Order) -> io::Result<()> {
+        match order {
+            Order::LendMap { n, byte } => self.map.lend(n, byte),
+            Order::ClearMap { at, n } => self.map.fill(at, n, 0),
+            Order::MapByte { at, byte } => self.map.put(at, &[byte]),
+            Order::MapHalf { at, half } => self.map.put(at, &half.to_le_bytes()),
+            Order::MapWord { at, word } => self.map.put(at, &word.to_le_bytes()),
+            Order::MapLength { n } => self.used = n,
+            Order::LendJournal { n, byte } => self.journal.lend(n, byte),
+            Order::JournalWord { at, word } => self.journal.put(at, &word.to_le_bytes()),
+            Order::OfferPairs { pairs, coordinate } => self.offer(pairs, coordinate),
+            Order::ObjectWord { at, word } => self.object.put(at, &word.to_le_bytes()),
+            Order::OfferBytes { n } => self.object.count = n,
+            Order::LendList { n, entry } => self.list.lend(n, entry),
+            Order::LeftBottom { left, bottom } => {
+                self.window = Window {
+                    left,
+                    bottom,
+                    ..self.window
+                };
+            }
+            Order::RightTop { right, top } => {
+                self.window = Window {
+                    right,
+                    top,
+                    ..self.window
+                };
+            }
+            Order::Check => self.check(rt)?,
+            Order::Search => self.search(rt)?,
+            Order::Edit(edit) => self.edit(rt, edit)?,
+            Order::ShowCase { number, version } => println!(rt; "T{number} version {version}")?,
+            Order::ShowMap { at } => self.show_map(rt, at)?,
+            Order::ShowEntry { at } => self.show_entry(rt, at)?,
+        }
+        Ok(())
     }
-}
 
-// n bytes from a place on.
-fn fill_from(s: &mut [u8], from: usize, n: usize, v: u8) {
-    if s.len() < from {
-        return;
+    // An object is offered, its header zero and each coordinate the same.
+    fn offer(&mut self, pairs: u32, coordinate: u32) {
+        let n = ObjectHeader::SIZE + ObjectHeader::PAIR * pairs as usize;
+        if let Some(object) = self.object.all.get_mut(..n) {
+            let (header, coordinates) = object.split_at_mut(ObjectHeader::SIZE);
+            header.fill(0);
+            coordinates.as_chunks_mut().0.fill(coordinate.to_le_bytes());
+            self.object.count = n;
+        }
     }
-    if s.len() - from < n {
-        return;
-    }
-    let end = from + n;
-    fill(&mut s[from..end], v);
-}
 
-// A number over all of a list.
-fn fill_list(s: &mut [u32], v: u32) {
-    let mut i = 0;
-    while i < s.len() {
-        s[i] = v;
-        i += 1;
+    fn check(&self, rt: &impl Print) -> io::Result<()> {
+        let Some(map) = self.map.lent() else {
+            return Ok(());
+        };
+        let v = accept::check(map, self.used);
+        let (number, place) = (refusals::number(&v), refusals::place(&v));
+        println!(rt; "check {number} at {place}")
     }
-}
 
-// A byte at a place.
-fn put_byte(s: &mut [u8], at: usize, v: u8) {
-    if at < s.len() {
-        s[at] = v;
+    fn search(&mut self, rt: &impl Print) -> io::Result<()> {
+        let (Some(map), Some(list)) = (self.map.lent(), self.list.lent_mut()) else {
+            return Ok(());
+        };
+        let a = find::search(map, self.used, self.window, list);
+        let (number, place) = (refusals::number(&a), refusals::place(&a));
+        let (count, blocks) = (find::count(&a), find::blocks(&a));
+        let list = sum(list);
+        println!(rt; "search {number} at {place} found {count} blocks {blocks} list {list}")
     }
-}
 
-// 16 bits at a place.
-fn put_half(s: &mut [u8], at: usize, v: u16) {
-    if s.len() < 2 {
-        return;
+    // An edit. The length that it answers with is the map's from then on. Its line ends with sums over all that is lent.
+    fn edit(&mut self, rt: &impl Print, edit: Edit) -> io::Result<()> {
+        let (Some(map), Some(journal)) = (self.map.lent_mut(), self.journal.lent_mut()) else {
+            return Ok(());
+        };
+        let a = match edit {
+            Edit::Add { number } => {
+                let Some(object) = self.object.lent() else {
+                    return Ok(());
+                };
+                add::add(map, self.used, journal, number, object)
+            }
+            Edit::Remove { number, slot } => change::remove(map, self.used, journal, number, slot),
+            Edit::Reinstate { number, slot } => change::reinstate(
+                map, self.used, journal, number, slot,
+            ),
+        };
+        let (number, place) = (refusals::number(&a), refusals::place(&a));
+        let (before, slot, length) = (edit::before(&a), edit::slot(&a), edit::length(&a));
+        let (map, journal) = (sum(map), sum(journal));
+        print!(rt; "edit {number} at {place} before {before} slot {slot} length {length}")?;
+        println!(rt; " map {map} journal {journal}")?;
+        if a.is_ok() {
+            self.used = length as usize;
+        }
+        Ok(())
     }
-    if s.len() - 2 < at {
-        return;
-    }
-    put_u16_at(s, at, v);
-}
 
-// 32 bits at a place.
-fn put_word(s: &mut [u8], at: usize, v: u32) {
-    if s.len() < 4 {
-        return;
+    fn show_map(&self, rt: &impl Print, at: usize) -> io::Result<()> {
+        match self.map.all.get(at..).and_then(|rest| rest.first_chunk()) {
+            Some(&word) => println!(rt; "map at {at} holds {}", u32::from_le_bytes(word)),
+            None => Ok(()),
+        }
     }
-    if s.len() - 4 < at {
-        return;
-    }
-    put_u32_at(s, at, v);
-}
 
-// The coordinates of the first pairs of an object.
-fn put_pairs(s: &mut [u8], pairs: u32, v: u32) {
-    let mut i: u32 = 0;
-    while i < pairs {
-        put_word(s, 32 + 8 * (i as usize), v);
-        put_word(s, 36 + 8 * (i as usize), v);
-        i += 1;
+    fn show_entry(&self, rt: &impl Print, at: usize) -> io::Result<()> {
+        match self.list.all.get(at) {
+            Some(entry) => println!(rt; "entry {at} holds {entry}"),
+            None => Ok(()),
+        }
     }
-}
-
-// Bytes of the map are lent.
-fn lend_map(map: &mut [u8], d: Desk, n: usize, v: u8) -> Desk {
-    if map.len() < n {
-        return d;
-    }
-    fill_from(map, 0, n, v);
-    let mut after = d;
-    after.map = n;
-    after
-}
-
-// Bytes of the journal are lent.
-fn lend_journal(journal: &mut [u8], d: Desk, n: usize, v: u8) -> Desk {
-    if journal.len() < n {
-        return d;
-    }
-    fill_from(journal, 0, n, v);
-    let mut after = d;
-    after.journal = n;
-    after
-}
-
-// Entries of the list are lent.
-fn lend_list(list: &mut [u32], d: Desk, n: usize, v: u32) -> Desk {
-    if list.len() < n {
-        return d;
-    }
-    fill_list(&mut list[0..n], v);
-    let mut after = d;
-    after.list = n;
-    after
-}
-
-// An object is offered. 32,769 pairs are one more than any may have.
-fn offer(object: &mut [u8], d: Desk, pairs: u32, v: u32) -> Desk {
-    if 32769 < pairs {
-        return d;
-    }
-    fill_from(object, 0, 32, 0);
-    put_pairs(object, pairs, v);
-    let mut after = d;
-    after.object = 32 + 8 * (pairs as usize);
-    after
-}
-
-// The map's length is set.
-pub(super) fn set_used(d: Desk, n: usize) -> Desk {
-    let mut after = d;
-    after.used = n;
-    after
-}
-
-// So many bytes of the object are offered.
-fn set_offered(d: Desk, n: usize) -> Desk {
-    let mut after = d;
-    after.object = n;
-    after
-}
-
-// Orders 1 to 6.
-pub(super) fn set_map(map: &mut [u8], d: Desk, o: Order) -> Desk {
-    let what = o.what;
-    let at = o.a as usize;
-    if what == 1 {
-        return lend_map(map, d, at, (o.b % 256) as u8);
-    }
-    if what == 2 {
-        fill_from(map, at, o.b as usize, 0);
-        return d;
-    }
-    if what == 3 {
-        put_byte(map, at, (o.b % 256) as u8);
-        return d;
-    }
-    if what == 4 {
-        put_half(map, at, (o.b % 65536) as u16);
-        return d;
-    }
-    if what == 5 {
-        put_word(map, at, o.b);
-        return d;
-    }
-    set_used(d, at)
-}
-
-// Orders 7 to 11.
-pub(super) fn set_edit(journal: &mut [u8], object: &mut [u8], d: Desk, o: Order) -> Desk {
-    let what = o.what;
-    let at = o.a as usize;
-    if what == 7 {
-        return lend_journal(journal, d, at, (o.b % 256) as u8);
-    }
-    if what == 8 {
-        put_word(journal, at, o.b);
-        return d;
-    }
-    if what == 9 {
-        return offer(object, d, o.a, o.b);
-    }
-    if what == 10 {
-        put_word(object, at, o.b);
-        return d;
-    }
-    set_offered(d, at)
-}
-
-// Orders 12 to 14.
-pub(super) fn set_search(list: &mut [u32], d: Desk, o: Order) -> Desk {
-    let what = o.what;
-    if what == 12 {
-        return lend_list(list, d, o.a as usize, o.b);
-    }
-    let mut after = d;
-    if what == 13 {
-        after.left = signed32_of(o.a);
-        after.bottom = signed32_of(o.b);
-    } else {
-        after.right = signed32_of(o.a);
-        after.top = signed32_of(o.b);
-    }
-    after
 }

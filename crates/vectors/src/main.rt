@@ -27,116 +27,37 @@
 //  22  write entry a of the list
 #![tactic(auto)]
 
-mod calls;
+mod buffer;
 mod desk;
-mod lines;
+mod order;
 
-use calls::{call_check, call_edit, call_search};
-use desk::{Desk, set_edit, set_map, set_search};
-use lines::show;
-use numbers::u32_at;
-use std::io;
-use std::io::{ErrorKind, Read};
+use buffer::Buffer;
+use desk::Desk;
+use order::{Order, Stop};
+use std::io::{self, ErrorKind, Read};
+use windows::Window;
 
-// An order of the script.
-#[derive(Clone, Copy)]
-struct Order {
-    what: u32,
-    a: u32,
-    b: u32,
-}
-
-// The order that ends the script.
-fn last() -> Order {
-    Order {
-        what: 0,
-        a: 0,
-        b: 0,
-    }
-}
-
-// Fills a buffer, and says whether the input had enough for it.
-fn read_whole(input: &mut impl Read, buffer: &mut [u8]) -> io::Result<bool> {
-    match input.read_exact(buffer) {
-        Ok(()) => Ok(true),
-        Err(e) if e.kind() == ErrorKind::UnexpectedEof => Ok(false),
+// The next 12 bytes of the script, or none where the input ends before.
+fn next(input: &mut impl Read) -> io::Result<Option<[u8; 12]>> {
+    let mut bytes = [0u8; 12];
+    match input.read_exact(&mut bytes) {
+        Ok(()) => Ok(Some(bytes)),
+        Err(e) if e.kind() == ErrorKind::UnexpectedEof => Ok(None),
         Err(e) => Err(e),
     }
 }
 
-// The next order. The end of the input is the last; so is an order that is none of the 22.
-fn next(rt: &impl Print, input: &mut impl Read) -> io::Result<Order> {
-    let mut r = [0u8; 12];
-    if !read_whole(input, &mut r)? {
-        return Ok(last());
-    }
-    let what = u32_at(&r, 0);
-    if 22 < what {
-        rt.write_all(b"bad script\n")?;
-        return Ok(last());
-    }
-    Ok(Order {
-        what,
-        a: u32_at(&r, 4),
-        b: u32_at(&r, 8),
-    })
-}
-
-// One order.
-fn obey(
-    rt: &impl Print,
-    map: &mut [u8],
-    journal: &mut [u8],
-    object: &mut [u8],
-    list: &mut [u32],
-    d: Desk,
-    o: Order,
-) -> io::Result<Desk> {
-    let what = o.what;
-    if what < 7 {
-        return Ok(set_map(map, d, o));
-    }
-    if what < 12 {
-        return Ok(set_edit(journal, object, d, o));
-    }
-    if what < 15 {
-        return Ok(set_search(list, d, o));
-    }
-    if what == 15 {
-        call_check(rt, map, d.map, d.used)?;
-        return Ok(d);
-    }
-    if what == 16 {
-        call_search(rt, map, list, d)?;
-        return Ok(d);
-    }
-    if what < 20 {
-        return call_edit(rt, map, journal, object, d, o);
-    }
-    show(rt, map, list, o)?;
-    Ok(d)
-}
-
 // The orders up to the last; at most a million.
-fn play(
-    rt: &impl Print,
-    input: &mut impl Read,
-    map: &mut [u8],
-    journal: &mut [u8],
-    object: &mut [u8],
-    list: &mut [u32],
-    start: Desk,
-) -> io::Result<()> {
-    let mut d = start;
-    let mut left: u32 = 1000000;
-    while 0 < left {
-        let o = next(rt, input)?;
-        let what = o.what;
-        if what == 0 {
-            return Ok(());
+fn play(rt: &impl Print, input: &mut impl Read, desk: &mut Desk) -> io::Result<()> {
+    for _ in 0..1_000_000 {
+        let Some(bytes) = next(input)? else {
+            break;
+        };
+        match Order::try_from(bytes) {
+            Ok(order) => desk.obey(rt, order)?,
+            Err(Stop::End) => break,
+            Err(Stop::BadScript) => return println!(rt; "bad script"),
         }
-        d = obey(rt, map, journal, object, list, d, o)?;
-        left -= 1;
     }
     Ok(())
 }
@@ -147,25 +68,18 @@ fn main(rt: HostRuntime) -> io::Result<()> {
     let mut journal = [0u8; 65552];
     let mut object = [0u8; 262184];
     let mut list = [0u32; 2048];
-    let d = Desk {
-        map: 0,
+    let mut desk = Desk {
+        map: Buffer::new(&mut map),
         used: 0,
-        journal: 0,
-        object: 0,
-        list: 0,
-        left: 0,
-        bottom: 0,
-        right: 0,
-        top: 0,
+        journal: Buffer::new(&mut journal),
+        object: Buffer::new(&mut object),
+        list: Buffer::new(&mut list),
+        window: Window {
+            left: 0,
+            bottom: 0,
+            right: 0,
+            top: 0,
+        },
     };
-    let mut input = rt.stdin();
-    play(
-        &rt,
-        &mut input,
-        &mut map,
-        &mut journal,
-        &mut object,
-        &mut list,
-        d,
-    )
+    play(&rt, &mut rt.stdin(), &mut desk)
 }

@@ -7,7 +7,9 @@ use denote.Ref.{Bor}
 use Rattle.windows.specs.declared.Window.{Window}
 use Rattle.accept.specs.Clauses.{Says}
 use Rattle.accept.proofs.Contracts.{one}
-use Rattle.find.specs.declared.SearchAnswer.{SearchAnswer}
+use Rattle.std.specs.Prelude.{Result}
+use Rattle.refusals.specs.declared.Refusal.{Refusal}
+use Rattle.find.specs.declared.Listed.{Listed}
 use Rattle.view.specs.declared.MapView.{MapView}
 use Rattle.view.specs.Views.{Viewed, FoundIn, SearchedView}
 use Rattle.view.specs.contracts.view as view
@@ -32,9 +34,9 @@ search-view-says M 𝓤 𝓛 mem run = refl
 pub view-one : (bytes : Bor (List ℕ)) (used : ℕ) {v v' : MapView} → Viewed bytes used v → Viewed bytes used v' → v ≡ v'
 view-one bytes used p q = λ i. record { bytes = one p.0 q.0 i; used = one p.1 q.1 i }
 
-pub find-in-one : (v : MapView) (w : Window) (l : List ℕ) {a a' : SearchAnswer} {z z' : List ℕ} → FoundIn v w l a z → FoundIn v w l a' z' → (a ≡ a') × (z ≡ z')
+pub find-in-one : (v : MapView) (w : Window) (l : List ℕ) {a a' : Result Listed Refusal} {z z' : List ℕ} → FoundIn v w l a z → FoundIn v w l a' z' → (a ≡ a') × (z ≡ z')
 find-in-one v w l p q = (one p.0 q.0, one p.1 q.1)
 
-pub search-view-one : (m : List ℕ) (used : ℕ) (w : Window) (l : List ℕ) {a a' : SearchAnswer} {z z' : List ℕ}
+pub search-view-one : (m : List ℕ) (used : ℕ) (w : Window) (l : List ℕ) {a a' : Result Listed Refusal} {z z' : List ℕ}
     → SearchedView m used w l a z → SearchedView m used w l a' z' → (a ≡ a') × (z ≡ z')
 search-view-one m used w l p q = (one p.0 q.0, one p.1 q.1)

@@ -3,7 +3,8 @@
 
 ghost use Rattle.view.specs.Views.{Viewed, FoundIn, SearchedView};
 
-use find::SearchAnswer;
+use find::Listed;
+use refusals::Refusal;
 use windows::Window;
 
 // The bytes, and the length of the map in them, checked against the limits and the buffer: 0, which no map has, where it is not good.
@@ -24,14 +25,23 @@ pub fn view<'a>(bytes: &'a [u8], used: usize) -> MapView<'a>
 }
 
 // The search in a view.
-pub fn find_in<'a, 'b>(v: MapView<'a>, window: Window, list: &'b mut [u32]) -> SearchAnswer
+pub fn find_in<'a, 'b>(
+    v: MapView<'a>,
+    window: Window,
+    list: &'b mut [u32],
+) -> Result<Listed, Refusal>
     ensures { FoundIn v.entry window list.old result list.new }
 {
     find::search(v.bytes, v.used, window, list)
 }
 
 // A view made and searched. A length that is not good is searched as 0, and answered with 1.
-pub fn search_view(bytes: &[u8], used: usize, window: Window, list: &mut [u32]) -> SearchAnswer
+pub fn search_view(
+    bytes: &[u8],
+    used: usize,
+    window: Window,
+    list: &mut [u32],
+) -> Result<Listed, Refusal>
     ensures { SearchedView bytes.now used window list.old result list.new }
 {
     find_in(view(bytes, used), window, list)

@@ -1,20 +1,20 @@
--- A law for each test of a slot's object, and what a slot at fault is. Assumes nothing.
-use Prim.Native.Nat.{ℕ, ◌+◌, ◌*◌, ◌≤◌, ◌<◌}
+-- The laws of a slot's object: its header, its bytes, and where it does not fit; and what a slot at fault is. Assumes nothing.
+use Prim.Native.Nat.{ℕ, ◌+◌, ◌-◌, ◌*◌, ◌≤◌, ◌<◌}
 use mathlib.Core.Bool.{Bool, true, false, not, cond, and-false}
 use mathlib.Core.Path.{◌≡◌, refl, sym, ◌∙◌}
 use mathlib.Core.List.{List}
 use native.Mathlib.Omega.{arith}
 use lib.Dec.{eqb}
-use lib.ListN.{take, drop}
+use lib.ListN.{take, drop, length}
 use lib.Seq.{get_or-take}
-use borrow.Author.Tests.{eqb-true, eqb-false, eq-eqb, ne_eqb}
+use borrow.Author.Tests.{eqb-true, eqb-false}
 use Rattle.numbers.specs.Bytes.{le_at}
 use Rattle.numbers.proofs.Bytes.{le_at-part, le_at-drop}
-use Rattle.numbers.proofs.Ranges.{within_low, within-high, within-is}
+use Rattle.numbers.proofs.Ranges.{within-high}
 use Rattle.wide.specs.declared.WideSlot.{WideSlot}
 use Rattle.wide.specs.declared.WideObject.{WideObject}
 use Rattle.numbers.proofs.Below.{never}
-use Rattle.wide.specs.Slots.{wide_slot_of, wide_live, wide_object_of, wide_type_good, wide_bytes, bytes_by, wide_header_fits, wide_fits, wide_slot_good, wide_bad_slot}
+use Rattle.wide.specs.Slots.{wide_slot_of, wide_live, wide_object_of, wide_bytes, bytes_by, wide_header_fits, wide_fits, wide_slot_good, wide_bad_slot}
 
 -- an object's header, read in a part that has it
 pub object-part : (m : List ℕ) (p : ℕ) {k : ℕ} → 40 ≤ k → wide_object_of (take k (drop p m)) ≡ wide_object_of (drop p m)
@@ -28,6 +28,10 @@ object-part m p {k} h =
       items = field 4 8 (omega arith) i;
       texts = field 2 12 (omega arith) i;
     }
+
+-- as the code reads it, in the part that starts there
+pub object_in : (m : List ℕ) (p : ℕ) {h : WideObject} → h ≡ wide_object_of (take (length m - p) (drop p m)) → p + 40 ≤ length m → h ≡ wide_object_of (drop p m)
+object_in m p e l = e ∙ object-part m p (omega arith)
 
 -- an object has 40 bytes at least, in both meanings of Len
 pub bytes-least : (len k : ℕ) → (len ≡ 0 → ⊥) → (wide_bytes len k ≡ 0 → ⊥) → 40 ≤ wide_bytes len k
@@ -54,10 +58,6 @@ bytes_most len k = go (eqb len (40 + 8 * k)) (eqb len k)
     go false false = omega arith
 
 module _ (touch : ℕ → ℕ → Bool) (used : ℕ) (t : WideSlot) (h : WideObject) where
-  pub fits_low : t.position < 48 → wide_fits touch used t h ≡ false
-  unfolding wide_fits
-  fits_low l = rw (within_low 48 used (bytes_by t h) t.position l, and-false)
-
   pub fits-past : used < t.position + bytes_by t h → wide_fits touch used t h ≡ false
   unfolding wide_fits
   fits-past l = rw (within-high 48 used (bytes_by t h) t.position l, and-false)
@@ -74,20 +74,6 @@ module _ (touch : ℕ → ℕ → Bool) (used : ℕ) (t : WideSlot) (h : WideObj
       go true e = fits-none (eqb-true (bytes_by t h) 0 e)
       go false e = let n = bytes-least t.len (h.items + h.texts) ne (eqb-false (bytes_by t h) 0 e) in fits-past (omega arith)
 
-  pub fits-sym : (h.sym ≡ t.sym → ⊥) → wide_fits touch used t h ≡ false
-  unfolding wide_fits wide_header_fits
-  fits-sym e = rw (ne_eqb h.sym t.sym e)
-
-  pub fits-type : wide_type_good h.kind ≡ false → wide_fits touch used t h ≡ false
-  unfolding wide_fits wide_header_fits
-  fits-type e = rw (e, and-false)
-
-  -- where all the others pass, the last test is the answer
-  pub fits-is : h.sym ≡ t.sym → wide_type_good h.kind ≡ true → (bytes_by t h ≡ 0 → ⊥) → 48 ≤ t.position → t.position + bytes_by t h ≤ used
-      → wide_fits touch used t h ≡ not (touch t.position (bytes_by t h))
-  unfolding wide_fits wide_header_fits
-  fits-is s k b l e = rw (eq-eqb h.sym t.sym s, k, ne_eqb (bytes_by t h) 0 b, within-is 48 used (bytes_by t h) t.position l e)
-
 -- ---- at fault: live and not good
 
 module _ (touch : ℕ → ℕ → Bool) (m : List ℕ) (used p : ℕ) {t : WideSlot} (e : t ≡ wide_slot_of m p) where
@@ -103,3 +89,8 @@ module _ (touch : ℕ → ℕ → Bool) (m : List ℕ) (used p : ℕ) {t : WideS
 pub live-len : (t : WideSlot) → wide_live t ≡ true → t.len ≡ 0 → ⊥
 unfolding wide_live
 live-len t l z = never (sym (rw (z, and-false) at l))
+
+-- what the two tests of a slot go by
+pub ruleset object_laws = (object_in, bytes-least, bytes_most)
+
+pub ruleset fault_laws = (bad-dead, bad-live, live-len)

@@ -14,3 +14,5 @@ size_small n h = rw (signed_low 2147483648 n (omega arith)) (lt-leb 572 n h)
 pub size-enough : (n : ℕ) → 572 ≤ n → n < 2147483648 → wide_size_good n ≡ true
 unfolding wide_size_good
 size-enough n h l = rw (signed_low 2147483648 n l) (le-leb 572 n h)
+
+pub ruleset size_laws = (size_small, size-enough)

@@ -2,45 +2,27 @@
 // one of them is good.
 #![tactic(auto)]
 
-ghost use Rattle.std.specs.Prelude.{◌≡◌, ℕ, ◌+◌, ◌*◌, ◌≤◌, ◌<◌, length};
-ghost use Rattle.numbers.specs.Bytes.{u32_at};
-ghost use Rattle.records.specs.Sizes.{wide_block_size, wide_page, wide_slot_size, wide_header_size, block_cells, link_size};
+ghost use Rattle.std.specs.Prelude.{◌≡◌, ℕ, ◌+◌, ◌*◌, ◌≤◌, ◌<◌, length, MatchOption};
+ghost use Rattle.records.specs.Sizes.{wide_block_size, wide_page, wide_slot_size, wide_header_size};
 ghost use Rattle.chain.specs.Tables.{ends_meet};
 ghost use Rattle.chain.specs.Indexed.{Indexed};
 ghost use Rattle.wide.specs.Slots.{wide_slot_of, wide_live, wide_object_of, wide_type_good, wide_bytes, wide_object_good, wide_slot_good, wide_bad_slot};
-ghost use Rattle.wide.specs.Symbols.{wide_symbol_good, wide_bad_entry};
+ghost use Rattle.wide.specs.Symbols.{wide_symbol_good};
 
 use chain::meets_block;
 use numbers::{at_most, u16_at, u32_at};
-use records::{Header, LINK};
+use records::Header;
 
-// An index block of 9 to 11, by where it starts: a link, then 256 slots.
-#[derive(Clone, Copy)]
-pub struct WideBlock {
-    pub at: usize,
-}
+// An index block of 9 to 11: a link, then 256 slots.
+pub struct WideBlock;
 
 impl WideBlock {
     pub const SIZE: usize = 10244;
     // A table of them goes by pages of so many bytes.
     pub const PAGE: usize = 8192;
-
-    pub fn new(at: usize) -> WideBlock
-        ensures { result.at ≡ at }
-    {
-        WideBlock { at }
-    }
-
-    // Where slot j of the block stands.
-    pub fn slot(self, j: usize) -> usize
-        requires { (self.at ≤ 4294967296) × (j < block_cells) }
-        ensures { result ≡ self.at + link_size + wide_slot_size * j }
-    {
-        self.at + LINK + WideSlot::SIZE * j
-    }
 }
 
-// A slot of 9 to 11. Coordinates are raw; Sym is kept as its 32 bits.
+// A slot of 9 to 11. Coordinates are raw; Sym is kept as its 32 bits. It is a type of its own: its fields are not those of 6 to 8, and stand elsewhere.
 #[derive(Clone, Copy)]
 pub struct WideSlot {
     pub left: u32,
@@ -57,6 +39,7 @@ impl WideSlot {
     pub const SIZE: usize = 40;
 
     // The slot at a place.
+    #[tactic(auto, unfolding(crate::specs::Slots::wide_slot_of))]
     pub fn at(m: &[u8], at: usize) -> WideSlot
         requires { at + wide_slot_size ≤ length m.now }
         ensures { result ≡ wide_slot_of m.now at }
@@ -74,16 +57,11 @@ impl WideSlot {
     }
 
     // Normal or hidden, with a Len.
+    #[tactic(auto, unfolding(crate::specs::Slots::wide_live))]
     pub fn is_live(self) -> bool
         ensures { result ≡ wide_live self }
     {
-        if self.len == 0 {
-            return false;
-        }
-        if self.status == 1 {
-            return true;
-        }
-        self.status == 2
+        self.len != 0 && matches!(self.status, 1 | 2)
     }
 }
 
@@ -104,6 +82,7 @@ impl WideObject {
     pub const PAIR: usize = 8;
 
     // The header of the object that starts a part.
+    #[tactic(auto, unfolding(crate::specs::Slots::wide_object_of))]
     pub fn of(part: &[u8]) -> WideObject
         requires { wide_header_size ≤ length part.now }
         ensures { result ≡ wide_object_of part.now }
@@ -118,83 +97,66 @@ impl WideObject {
 }
 
 // Whether an object's type is 1 to 7.
+#[tactic(auto, unfolding(crate::specs::Slots::wide_type_good))]
 fn wide_type_good(kind: u8) -> bool
     ensures { result ≡ wide_type_good kind }
 {
-    if kind < 1 {
-        return false;
-    }
-    kind <= 7
+    matches!(kind, 1..=7)
 }
 
-// The bytes of an object of so many pairs by its slot's Len, in both meanings; 0: neither.
-fn wide_bytes(len: u32, items: u32, texts: u16) -> usize
-    ensures { result ≡ wide_bytes len (items + texts) }
+// The bytes of an object of so many pairs by its slot's Len, in both meanings; None: neither.
+#[tactic(auto, unfolding(crate::specs::Slots::wide_bytes))]
+fn wide_bytes(len: u32, items: u32, texts: u16) -> Option<usize>
+    ensures { MatchOption result (wide_bytes len (items + texts) ≡ 0) (λ n. (n ≡ wide_bytes len (items + texts)) × (0 < n)) }
 {
     let n = len as usize;
     let k = items as usize + texts as usize;
     if n == WideObject::SIZE + WideObject::PAIR * k {
-        return n;
+        Some(n)
+    } else if n == k {
+        Some(WideObject::COUNTED + WideObject::PAIR * n)
+    } else {
+        None
     }
-    if n == k {
-        return WideObject::COUNTED + WideObject::PAIR * n;
-    }
-    0
 }
 
 // Whether a slot's object is good. An object has 40 bytes at least in both meanings of Len, so its header is read after that test.
+#[tactic(auto, using(crate::proofs::Slots::object_laws), unfolding(crate::specs::Slots::wide_fits, crate::specs::Slots::wide_header_fits, numbers::specs::Ranges::within))]
 fn wide_object_good(m: &[u8], used: usize, index: &[u32], t: WideSlot) -> bool
     requires { Indexed wide_block_size wide_page m.now used index.now × (t.len ≡ 0 → ⊥) }
     ensures { result ≡ wide_object_good (ends_meet wide_block_size index.now) m.now used t }
 {
     let at = t.position as usize;
-    if at < Header::SIZE {
-        return false;
-    }
-    if used < at + WideObject::SIZE {
+    if at < Header::SIZE || used < at + WideObject::SIZE {
         return false;
     }
     let h = WideObject::of(&m[at..]);
-    if h.sym != t.sym {
+    if h.sym != t.sym || !wide_type_good(h.kind) {
         return false;
     }
-    if !wide_type_good(h.kind) {
+    let Some(bytes) = wide_bytes(t.len, h.items, h.texts) else {
         return false;
-    }
-    let bytes = wide_bytes(t.len, h.items, h.texts);
-    if bytes == 0 {
-        return false;
-    }
-    if used < at + bytes {
-        return false;
-    }
-    !meets_block(index, WideBlock::PAGE, WideBlock::SIZE, at, bytes)
+    };
+    at + bytes <= used && !meets_block(index, WideBlock::PAGE, WideBlock::SIZE, at, bytes)
 }
 
 // Whether a slot that has a Len would be good as a live one.
+#[tactic(auto, unfolding(crate::specs::Slots::wide_slot_good))]
 fn wide_slot_good(m: &[u8], used: usize, index: &[u32], t: WideSlot) -> bool
     requires { Indexed wide_block_size wide_page m.now used index.now × (t.len ≡ 0 → ⊥) }
     ensures { result ≡ wide_slot_good (ends_meet wide_block_size index.now) m.now used t }
 {
-    if !at_most(t.left, t.right) {
-        return false;
-    }
-    if !wide_object_good(m, used, index, t) {
-        return false;
-    }
-    at_most(t.bottom, t.top)
+    at_most(t.left, t.right) && wide_object_good(m, used, index, t) && at_most(t.bottom, t.top)
 }
 
 // Whether a slot is live and not good.
+#[tactic(auto, using(crate::proofs::Slots::fault_laws))]
 pub fn wide_bad_slot(m: &[u8], used: usize, index: &[u32], t: WideSlot) -> bool
     requires { Indexed wide_block_size wide_page m.now used index.now }
     ensures { (at : ℕ) → t ≡ wide_slot_of m.now at
         → result ≡ wide_bad_slot (ends_meet wide_block_size index.now) m.now used at }
 {
-    if !t.is_live() {
-        return false;
-    }
-    !wide_slot_good(m, used, index, t)
+    t.is_live() && !wide_slot_good(m, used, index, t)
 }
 
 // A symbol record of 9 to 11, by its Size.
@@ -209,34 +171,16 @@ impl WideRecord {
 }
 
 // Whether a symbol record is good. A Size that is negative is past every map's end.
-fn wide_symbol_good(m: &[u8], used: usize, index: &[u32], at: usize) -> bool
+#[tactic(auto, using(crate::proofs::Symbols::size_laws), unfolding(crate::specs::Symbols::wide_symbol_good, numbers::specs::Ranges::within))]
+pub fn wide_symbol_good(m: &[u8], used: usize, index: &[u32], at: usize) -> bool
     requires { (at < 4294967296) × Indexed wide_block_size wide_page m.now used index.now }
     ensures { result ≡ wide_symbol_good (ends_meet wide_block_size index.now) m.now used at }
 {
-    if at < Header::SIZE {
-        return false;
-    }
-    if used < at + 4 {
+    if at < Header::SIZE || used < at + 4 {
         return false;
     }
     let size = u32_at(m, at) as usize;
-    if size < WideRecord::SIZE {
-        return false;
-    }
-    if used < at + size {
-        return false;
-    }
-    !meets_block(index, WideBlock::PAGE, WideBlock::SIZE, at, size)
-}
-
-// Whether a symbol entry that says p is used and its record is not good.
-pub fn wide_bad_entry(m: &[u8], used: usize, index: &[u32], p: usize) -> bool
-    requires { (p < 4294967296) × Indexed wide_block_size wide_page m.now used index.now }
-    ensures { (at : ℕ) → p ≡ u32_at m.now at
-        → result ≡ wide_bad_entry (ends_meet wide_block_size index.now) m.now used at }
-{
-    if p == 0 {
-        return false;
-    }
-    !wide_symbol_good(m, used, index, p)
+    WideRecord::SIZE <= size
+        && at + size <= used
+        && !meets_block(index, WideBlock::PAGE, WideBlock::SIZE, at, size)
 }

@@ -5,13 +5,13 @@ ghost use Rattle.std.specs.Prelude.{◌≡◌, ◌+◌, ◌-◌, ◌*◌, ◌≤
 ghost use Rattle.numbers.specs.Coordinates.{unmarked};
 ghost use Rattle.records.specs.Sizes.{object_header_size, pair_size, window_size};
 ghost use Rattle.windows.specs.Rectangles.{x_of, y_of, lesser_of, greater_of, point_at, joined, without_marks, rectangle_of};
-ghost use Rattle.windows.specs.Windows.{window_of, window_good, meets_window};
+ghost use Rattle.windows.specs.Windows.{window_of, rectangle_at, window_good, meets_window};
 
-use numbers::{i32_at, signed_at_most, signed32_of, u32_at, without_marks};
+use numbers::{i32_at, signed_at_most, u32_at, without_marks};
 use slots::ObjectHeader;
 
 // A rectangle of raw coordinates.
-#[derive(Clone, Copy)]
+#[derive(Clone, Copy, Debug, PartialEq, Eq)]
 pub struct Rectangle {
     pub left: u32,
     pub bottom: u32,
@@ -27,7 +27,7 @@ fn lesser(a: u32, b: u32) -> u32
     if signed_at_most(a, b) { a } else { b }
 }
 
-// The one of two that is greater by value, likewise.
+// The one of two that is greater by value, likewise. Two functions, as `min` and `max` are: each asks the order the other way round.
 fn greater(a: u32, b: u32) -> u32
     requires { (unmarked a ≡ a) × (unmarked b ≡ b) }
     ensures { result ≡ greater_of a b }
@@ -48,6 +48,19 @@ impl Rectangle {
         }
     }
 
+    // The rectangle of the slot that stands from a place on, in every version.
+    pub fn at(m: &[u8], at: usize) -> Rectangle
+        requires { at + 16 ≤ length m.now }
+        ensures { result ≡ rectangle_at m.now at }
+    {
+        Rectangle {
+            left: u32_at(m, at),
+            bottom: u32_at(m, at + 4),
+            right: u32_at(m, at + 8),
+            top: u32_at(m, at + 12),
+        }
+    }
+
     // The rectangle and a point more, both without marks.
     pub fn join(self, x: u32, y: u32) -> Rectangle
         requires { (without_marks self ≡ self) × (unmarked x ≡ x) × (unmarked y ≡ y) }
@@ -62,19 +75,18 @@ impl Rectangle {
     }
 }
 
-// The raw coordinates of pair i of the object that starts a part.
-fn pair_x(part: &[u8], i: usize) -> u32
+// The raw coordinates of pair i of the object that starts a part, without their marks.
+#[tactic(auto, unfolding(crate::specs::Rectangles::x_of, crate::specs::Rectangles::y_of))]
+fn pair(part: &[u8], i: usize) -> (u32, u32)
     requires { (i ≤ 65535) × (object_header_size + pair_size * i + pair_size ≤ length part.now) }
-    ensures { result ≡ x_of part.now i }
+    ensures x { result.0 ≡ unmarked (x_of part.now i) }
+    ensures y { result.1 ≡ unmarked (y_of part.now i) }
 {
-    u32_at(part, ObjectHeader::SIZE + ObjectHeader::PAIR * i)
-}
-
-fn pair_y(part: &[u8], i: usize) -> u32
-    requires { (i ≤ 65535) × (object_header_size + pair_size * i + pair_size ≤ length part.now) }
-    ensures { result ≡ y_of part.now i }
-{
-    u32_at(part, ObjectHeader::SIZE + ObjectHeader::PAIR * i + 4)
+    let at = ObjectHeader::SIZE + ObjectHeader::PAIR * i;
+    (
+        without_marks(u32_at(part, at)),
+        without_marks(u32_at(part, at + 4)),
+    )
 }
 
 // The least rectangle over the first pairs of the object that starts a part. The marks are dropped first: then each side is a signed least or greatest.
@@ -82,23 +94,17 @@ pub fn least_rectangle(part: &[u8], items: usize) -> Rectangle
     requires { (1 ≤ items) × (items ≤ 65535) × (object_header_size + pair_size * items ≤ length part.now) }
     ensures { result ≡ rectangle_of part.now items }
 {
-    let mut cover = Rectangle::point(
-        without_marks(pair_x(part, 0)),
-        without_marks(pair_y(part, 0)),
-    );
-    let mut i = 1;
-    while i < items {
-        cover = cover.join(
-            without_marks(pair_x(part, i)),
-            without_marks(pair_y(part, i)),
-        );
-        i += 1;
+    let (x, y) = pair(part, 0);
+    let mut cover = Rectangle::point(x, y);
+    for i in 1..items {
+        let (x, y) = pair(part, i);
+        cover = cover.join(x, y);
     }
     cover
 }
 
 // A window, in 0.01 mm.
-#[derive(Clone, Copy)]
+#[derive(Clone, Copy, Debug, PartialEq, Eq)]
 pub struct Window {
     pub left: i32,
     pub bottom: i32,
@@ -128,11 +134,7 @@ impl Window {
 pub fn window_good(w: Window) -> bool
     ensures { result ≡ window_good w }
 {
-    let left = w.left;
-    let bottom = w.bottom;
-    let right = w.right;
-    let top = w.top;
-    if left <= right { bottom <= top } else { false }
+    w.left <= w.right && w.bottom <= w.top
 }
 
 // Whether a rectangle meets a window: by value, and touching counts. A raw number's value is at most z just when the number is at most 256 z + 255,
@@ -141,9 +143,9 @@ pub fn window_good(w: Window) -> bool
 pub fn meets_window(r: Rectangle, w: Window) -> bool
     ensures { result ≡ meets_window r w }
 {
-    let left = signed32_of(r.left) as i64 <= w.right as i64 * 256 + 255;
-    let right = w.left as i64 * 256 <= signed32_of(r.right) as i64;
-    let bottom = signed32_of(r.bottom) as i64 <= w.top as i64 * 256 + 255;
-    let top = w.bottom as i64 * 256 <= signed32_of(r.top) as i64;
+    let left = i64::from(r.left.cast_signed()) <= i64::from(w.right) * 256 + 255;
+    let right = i64::from(w.left) * 256 <= i64::from(r.right.cast_signed());
+    let bottom = i64::from(r.bottom.cast_signed()) <= i64::from(w.top) * 256 + 255;
+    let top = i64::from(w.bottom) * 256 <= i64::from(r.top.cast_signed());
     left & right & bottom & top
 }

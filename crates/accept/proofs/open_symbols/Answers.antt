@@ -1,85 +1,68 @@
 -- `accept::open_symbols` meets its contract: filling keeps the blocks, and the symbols are judged by the table. Assumes nothing.
-use native.Mathlib.Nat.{div-le_self}
 use native.Mathlib.Omega.{arith}
-use Prim.Native.Nat.{ℕ, ◌+◌, ◌-◌, ◌/◌, ◌≤◌}
-use mathlib.Core.Path.{◌≡◌, ap, ◌∙◌}
-use lib.ListN.{get_or}
-use Rattle.records.specs.Headers.{index_head, is_wide}
-use Rattle.chain.specs.Tables.{Carried, Filled, EndsTable}
+use Prim.Native.Nat.{ℕ, ◌+◌, ◌-◌, ◌*◌, ◌/◌, ◌≤◌}
+use mathlib.Core.Bool.{Bool}
+use mathlib.Core.List.{List}
+use mathlib.Core.Path.{◌≡◌, subst, ◌∙◌}
+use lib.ListN.{length, get_or}
+use Rattle.std.specs.Prelude.{Ok}
+use Rattle.records.specs.Sizes.{header_size, map_limit, index_page}
+use Rattle.records.specs.Headers.{index_head}
+use Rattle.chain.specs.Chains.{walked}
+use Rattle.chain.specs.Tables.{Carried, Placed, Table}
 use Rattle.chain.proofs.Chains.{Pass, walked-pass}
 use Rattle.chain.proofs.Filling.{fill-filled, fill-table, entry-most, entry-none}
-use Rattle.judge.specs.Judging.{version_of}
-use Rattle.judge.specs.Rules.{family_in, family_of, index_rule_of}
+use Rattle.judge.specs.Rules.{Family, family_for, index_rule_of}
 use Rattle.judge.proofs.Rules.{Sized, sized, pages-fit, pages-count, pages-below}
-use Rattle.accept.specs.Opens.{opened_after, Open}
+use Rattle.accept.specs.Opens.{OpenOf}
 use Rattle.accept.proofs.open_symbols.Goals as goal
 
-pub u16_at-version-requires : goal.u16_at-version-requires
-u16_at-version-requires c =
-    omega (arith, c.requires.0, c.requires.2)
-
-pub nonzero_div-used : goal.nonzero_div-used
-nonzero_div-used c =
-    let page : c.page_size-page.result ≡ (family_of c.args.m.now).page = c.page_size-page.ensures ∙ ap (λ (v : ℕ). (family_in v).page) c.u16_at-version.ensures in
-    let bounds : Sized (family_of c.args.m.now) = sized (is_wide (version_of c.args.m.now)) in
-    omega (arith, page, bounds.page-least)
-
-pub overflow_add-used : goal.overflow_add-used
-overflow_add-used c =
-    omega (arith, div-le_self (c.args.used - 1) c.page_size-page.result, c.requires.1)
-
-pub overflow_cast-block : goal.overflow_cast-block
-overflow_cast-block c =
-    let size : c.block_size-block.result ≡ (family_of c.args.m.now).block = c.block_size-block.ensures ∙ ap (λ (v : ℕ). (family_in v).block) c.u16_at-version.ensures in
-    let bounds : Sized (family_of c.args.m.now) = sized (is_wide (version_of c.args.m.now)) in
-    omega (arith, size, bounds.most)
+-- a table of good index blocks that is filled opens the map
+opens-filled : (b : Bool) {m : List ℕ} {used n : ℕ} {t t' : List ℕ} → header_size ≤ used → used ≤ map_limit → used ≤ length m → used + index_page ≤ length t' * index_page
+    → walked (index_rule_of (family_for b) m) m used ≡ Ok n → Placed (family_for b).page t → Table index_head (family_for b).page m n t
+    → Carried (family_for b).block ((used - 1) / (family_for b).page + 2) t t' → OpenOf (family_for b) m used n t'
+opens-filled b {m} {used} {n} {t} {t'} low limit room fits walk placed table carried =
+    let f : Family = family_for b in
+    let s : Sized f = sized b in
+    let pass : Pass (index_rule_of f m) m used n = walked-pass (index_rule_of f m) m used walk in
+    let none : (i : ℕ) → (used - 1) / f.page + 2 ≤ i → get_or t i 0 ≡ 0 = entry-none pass (omega (arith, s.least)) table placed (omega (arith, s.page-least)) in
+    record {
+      low = low;
+      indexed = record {
+        limit = limit;
+        room = room;
+        wide = pages-fit b used _ fits;
+        filled = fill-filled placed carried none (omega (arith, s.page-least)) (λ i. pages-below b used i (omega (arith, low)));
+      };
+      index = walk;
+      table = fill-table placed carried none table;
+    }
 
 pub fill-requires : goal.fill-requires
-fill-requires c =
-    let page : c.page_size-page.result ≡ (family_of c.args.m.now).page = c.page_size-page.ensures ∙ ap (λ (v : ℕ). (family_in v).page) c.u16_at-version.ensures in
-    let size : c.block_size-block.result ≡ (family_of c.args.m.now).block = c.block_size-block.ensures ∙ ap (λ (v : ℕ). (family_in v).block) c.u16_at-version.ensures in
-    let bounds : Sized (family_of c.args.m.now) = sized (is_wide (version_of c.args.m.now)) in
-    let pass : Pass (index_rule_of (family_of c.args.m.now) c.args.m.now) c.args.m.now c.args.used c.args.n = walked-pass (index_rule_of (family_of c.args.m.now) c.args.m.now) c.args.m.now c.args.used c.requires.4 in
-    (rw page (pages-count (is_wide (version_of c.args.m.now)) c.args.used _ (omega (arith, c.requires.0)) c.requires.3), λ b. omega (arith, c.requires.1, size, bounds.most, entry-most pass (omega (arith, bounds.least)) c.requires.6 b))
+fill-requires g c =
+    let m = c.args.m.now in
+    let f : Family = family_for g.L.Layout.wide in
+    let s : Sized f = sized g.L.Layout.wide in
+    let page : c.PAGE.result ≡ f.page = c.PAGE.ensures ∙ g.met.L.Layout.page_is in
+    let size : c.BLOCK.result ≡ f.block = c.BLOCK.ensures ∙ g.met.L.Layout.block_is in
+    let pass : Pass (index_rule_of f m) m c.args.used c.args.n = walked-pass (index_rule_of f m) m c.args.used c.requires.4 in (
+      rw page (pages-count g.L.Layout.wide c.args.used _ (omega (arith, c.requires.0)) c.requires.3),
+      λ b. omega (arith, c.requires.1, size, s.most, entry-most pass (omega (arith, s.least)) c.requires.6 b),
+    )
 
-pub judge_symbols-symbols-requires : goal.judge_symbols-symbols-requires
-judge_symbols-symbols-requires c =
-    let size : c.block_size-block.result ≡ (family_of c.args.m.now).block = c.block_size-block.ensures ∙ ap (λ (v : ℕ). (family_in v).block) c.u16_at-version.ensures in
-    let page : c.page_size-page.result ≡ (family_of c.args.m.now).page = c.page_size-page.ensures ∙ ap (λ (v : ℕ). (family_in v).page) c.u16_at-version.ensures in
-    let carried : Carried (family_of c.args.m.now).block ((c.args.used - 1) / (family_of c.args.m.now).page + 2) c.args.index.now c.fill.new.t = rw (← size, ← page) c.fill.ensures in
-    let pass : Pass (index_rule_of (family_of c.args.m.now) c.args.m.now) c.args.m.now c.args.used c.args.n = walked-pass (index_rule_of (family_of c.args.m.now) c.args.m.now) c.args.m.now c.args.used c.requires.4 in
-    let bounds : Sized (family_of c.args.m.now) = sized (is_wide (version_of c.args.m.now)) in
-    let none : (b : ℕ) → (c.args.used - 1) / (family_of c.args.m.now).page + 2 ≤ b → get_or c.args.index.now b 0 ≡ 0 = entry-none pass (omega (arith, bounds.least)) c.requires.6 c.requires.5 (omega (arith, bounds.page-least)) in
-    let filled : Filled (family_of c.args.m.now).block (family_of c.args.m.now).page c.args.used c.fill.new.t = fill-filled c.requires.5 carried none (omega (arith, bounds.page-least)) (λ b. pages-below (is_wide (version_of c.args.m.now)) c.args.used b (omega (arith, c.requires.0))) in
-    let table : EndsTable (family_of c.args.m.now).block index_head (family_of c.args.m.now).page c.args.m.now c.args.n c.fill.new.t = fill-table c.requires.5 carried none c.requires.6 in
-    let opened : Open c.args.m.now c.args.used c.args.n c.fill.new.t = record {
-      low = c.requires.0;
-      indexed = record { limit = c.requires.1; room = c.requires.2; wide = pages-fit (is_wide (version_of c.args.m.now)) c.args.used _ (omega (arith, c.requires.3, c.fill.auto.t)); filled = filled };
-      index = c.requires.4;
-      table = table;
-    } in
-    opened
+pub judge_symbols-requires : goal.judge_symbols-requires
+judge_symbols-requires g c =
+    let page = c.PAGE.ensures ∙ g.met.L.Layout.page_is in
+    let size = c.BLOCK.ensures ∙ g.met.L.Layout.block_is in
+    opens-filled g.L.Layout.wide c.requires.0 c.requires.1 c.requires.2 (omega (arith, c.requires.3, c.fill.auto.t)) c.requires.4 c.requires.5 c.requires.6
+    (rw (← size, ← page) c.fill.ensures)
 
-pub returns-in-Bad : goal.returns-in-Bad
-unfolding opened_after
-returns-in-Bad c =
-    (rw (← c.judge_symbols-symbols.ensures, c.in-Bad.is), tt)
-
-pub returns-in-Good : goal.returns-in-Good
-unfolding opened_after
-returns-in-Good c =
-    let size : c.block_size-block.result ≡ (family_of c.args.m.now).block = c.block_size-block.ensures ∙ ap (λ (v : ℕ). (family_in v).block) c.u16_at-version.ensures in
-    let page : c.page_size-page.result ≡ (family_of c.args.m.now).page = c.page_size-page.ensures ∙ ap (λ (v : ℕ). (family_in v).page) c.u16_at-version.ensures in
-    let carried : Carried (family_of c.args.m.now).block ((c.args.used - 1) / (family_of c.args.m.now).page + 2) c.args.index.now c.fill.new.t = rw (← size, ← page) c.fill.ensures in
-    let pass : Pass (index_rule_of (family_of c.args.m.now) c.args.m.now) c.args.m.now c.args.used c.args.n = walked-pass (index_rule_of (family_of c.args.m.now) c.args.m.now) c.args.m.now c.args.used c.requires.4 in
-    let bounds : Sized (family_of c.args.m.now) = sized (is_wide (version_of c.args.m.now)) in
-    let none : (b : ℕ) → (c.args.used - 1) / (family_of c.args.m.now).page + 2 ≤ b → get_or c.args.index.now b 0 ≡ 0 = entry-none pass (omega (arith, bounds.least)) c.requires.6 c.requires.5 (omega (arith, bounds.page-least)) in
-    let filled : Filled (family_of c.args.m.now).block (family_of c.args.m.now).page c.args.used c.fill.new.t = fill-filled c.requires.5 carried none (omega (arith, bounds.page-least)) (λ b. pages-below (is_wide (version_of c.args.m.now)) c.args.used b (omega (arith, c.requires.0))) in
-    let table : EndsTable (family_of c.args.m.now).block index_head (family_of c.args.m.now).page c.args.m.now c.args.n c.fill.new.t = fill-table c.requires.5 carried none c.requires.6 in
-    let opened : Open c.args.m.now c.args.used c.args.n c.fill.new.t = record {
-      low = c.requires.0;
-      indexed = record { limit = c.requires.1; room = c.requires.2; wide = pages-fit (is_wide (version_of c.args.m.now)) c.args.used _ (omega (arith, c.requires.3, c.fill.auto.t)); filled = filled };
-      index = c.requires.4;
-      table = table;
-    } in
-    (rw (← c.judge_symbols-symbols.ensures, c.in-Good.is), opened)
+pub returns : goal.returns
+returns g c =
+    let page = c.PAGE.ensures ∙ g.met.L.Layout.page_is in
+    let size = c.BLOCK.ensures ∙ g.met.L.Layout.block_is in
+    let opened : OpenOf (family_for g.L.Layout.wide) c.args.m.now c.args.used c.args.n c.fill.new.t = opens-filled g.L.Layout.wide c.requires.0 c.requires.1 c.requires.2 (omega (arith, c.requires.3, c.fill.auto.t)) c.requires.4 c.requires.5 c.requires.6
+    (rw (← size, ← page) c.fill.ensures) in (
+      rw (← c.judge_symbols.ensures, c.in_ok-judge_symbols.was),
+      λ k q. let e : c.args.n ≡ k = cc in subst (λ (i : ℕ). OpenOf (family_for g.L.Layout.wide) c.args.m.now c.args.used i c.fill.new.t) e opened,
+    )

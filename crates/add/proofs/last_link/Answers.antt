@@ -12,12 +12,8 @@ unfolding place
 returns-then-n-eq0 c =
     λ m o. rw c.if-n-eq0.true
 
-pub overflow_cast-result : goal.overflow_cast-result
-overflow_cast-result c =
-    omega (arith, c.type_inv.order (c.args.n - 1))
-
-pub returns : goal.returns
-returns c =
+pub returns-else-n-eq0 : goal.returns-else-n-eq0
+returns-else-n-eq0 c =
     let n = c.args.n in
     let e : n - 1 + 1 ≡ n = omega arith in
     λ m o. o (n - 1) (omega arith) ∙ sym (place-more index_head m (n - 1)) ∙ ap (place index_head m) e

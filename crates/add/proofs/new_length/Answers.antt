@@ -8,6 +8,6 @@ pub returns-then-s-n : goal.returns-then-s-n
 returns-then-s-n c =
     λ m e. let a = c.args in sym (length-free m a.used a.n a.o.now (omega (arith, e)))
 
-pub returns : goal.returns
-returns c =
+pub returns-else-s-n : goal.returns-else-s-n
+returns-else-s-n c =
     λ m e. let a = c.args in sym (length-block m a.used a.n a.o.now (omega (arith, e)))

@@ -1,32 +1,27 @@
 use native.Mathlib.Omega.{arith}
 use Prim.Native.Nat.{◌+◌}
-use mathlib.Core.Path.{◌≡◌, refl, ◌∙◌}
-use lib.ListN.{length-set}
+use mathlib.Core.Path.{◌≡◌, ◌∙◌}
+use lib.ListN.{take, length}
+use Rattle.std.proofs.lemmas.List.{length-take-le}
 use Rattle.chain.specs.Tables.{last_below, end_of}
-use Rattle.chain.proofs.Filling.{carried_none, carried-more, last_none, last-full, last_empty}
+use Rattle.chain.proofs.Filling.{carried_none, carried-more, carried-front, last_none, last-full, last_empty}
 use Rattle.chain.proofs.fill.Goals as goal
-use Rattle.chain.proofs.fill.Goals.{else-t-b-ne0, then-t-b-ne0}
+use Rattle.chain.proofs.fill.Goals.{else-entry-ne0, then-entry-ne0}
 
-pub loop-b-init : goal.loop-b-init
-loop-b-init c =
-    (omega arith, refl, last_none _ _, carried_none _ _)
+pub loop-entry-init : goal.loop-entry-init
+loop-entry-init c =
+    (last_none _ _, carried_none _ _)
 
-pub overflow_add-last : goal.overflow_add-last
-overflow_add-last c =
-    omega (arith, c.loop-b.invariant.3.above c.loop-b.b (omega arith), c.requires.1 c.loop-b.b)
-
-pub loop-b-preserved : goal.loop-b-preserved
-loop-b-preserved c =
-    let last : c.if-t-b-ne0.last ≡ end_of c.args.size (last_below c.args.t.now (c.loop-b.b + 1)) = let l = c.loop-b in
-    elim c.if-t-b-ne0.branch [ then-t-b-ne0 w ↦ w.last-is ∙ last-full l.invariant.3 w.if-t-b-ne0.true | else-t-b-ne0 w ↦ w.last-is ∙ last_empty l.invariant.3 w.if-t-b-ne0.false l.invariant.2 ] in
-    let l = c.loop-b in
-    (omega arith, simp length-set l.invariant.1, last, carried-more l.invariant.3 (omega arith) last)
-
-pub shape_of-t : goal.shape_of-t
-shape_of-t c =
-    c.loop-b.invariant.1
+pub loop-entry-preserved : goal.loop-entry-preserved
+loop-entry-preserved c =
+    let l = c.loop-entry in
+    let last : c.if-entry-ne0.last ≡ end_of c.args.size (last_below (take c.args.k c.args.t.now) (l.entry-index + 1)) =
+    elim c.if-entry-ne0.branch [ then-entry-ne0 w ↦ w.last-is ∙ last-full l.invariant.1 w.if-entry-ne0.true | else-entry-ne0 w ↦ w.last-is ∙ last_empty l.invariant.1 w.if-entry-ne0.false l.invariant.0 ] in
+    (last, carried-more l.invariant.1 (omega arith) last)
 
 pub returns : goal.returns
 returns c =
-    let e : c.loop-b.b ≡ c.args.k = omega arith in
-    rw (← e) c.loop-b.invariant.3
+    let l = c.loop-entry in
+    let all : length (take c.args.k c.args.t.now) ≡ c.args.k = length-take-le c.args.k c.args.t.now c.requires.0 in
+    let e : l.entry-index ≡ c.args.k = omega arith in
+    carried-front (omega arith) (rw e at l.invariant.1)

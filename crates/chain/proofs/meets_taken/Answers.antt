@@ -1,44 +1,31 @@
-use borrow.Author.Count.{below_more}
+-- `chain::meets_taken` meets its contract. Blocks of the pages below the first end before the range, and each page behind the last lies too high. Assumes nothing.
 use native.Mathlib.Omega.{arith}
-use native.Mathlib.Nat.{div-le_self}
-use Prim.Native.Nat.{◌+◌, ◌-◌}
-use mathlib.Core.Path.{sym}
+use Prim.Native.Nat.{ℕ, ◌+◌, ◌-◌, ◌/◌, ◌<◌}
+use mathlib.Core.Path.{◌≡◌, refl}
+use mathlib.Core.Bool.{true, false}
 use lib.ListN.{length}
-use Rattle.chain.proofs.Tables.{scan-low, scan-end, scan-hit}
-use Rattle.chain.proofs.Pigeon.{div_mono, page-in}
+use borrow.Author.Tests.{tests}
+use Rattle.std.proofs.Common.{rules}
+use Rattle.std.proofs.iter.Serving.{serving}
+use Rattle.std.proofs.lemmas.Iterator.{cases_from_any, YieldsList-from_range}
+use Rattle.chain.specs.Tables.{entry_meets}
+use Rattle.chain.proofs.Pigeon.{page-in}
+use Rattle.chain.proofs.Tables.{scan-is, scan-low}
 use Rattle.chain.proofs.meets_taken.Goals as goal
-use Rattle.chain.proofs.meets_taken.Goals.{else-size-start, then-size-start}
+use Rattle.chain.proofs.meets_taken.Goals.{then-size-start, else-size-start}
 
-pub overflow_add-last-2 : goal.overflow_add-last-2
-overflow_add-last-2 c =
-    let a = c.args in omega (arith, div-le_self (a.start + a.len - 1) a.page)
-
-pub overflow_add-b : goal.overflow_add-b
-overflow_add-b c =
-    let a = c.args in omega (arith, div-le_self (a.start - a.size) a.page)
-
-pub loop-b-init : goal.loop-b-init
-loop-b-init c =
-    elim c.if-size-start.branch [ then-size-start w ↦ rw w.b-is (omega (arith, div_mono {a = c.args.start - c.args.size} {b = c.args.start + c.args.len - 1} c.args.page c.requires.0 (omega arith)), scan-low c.args.size c.args.t.now c.args.start c.args.len c.requires.5 c.requires.0 w.if-size-start.true) | else-size-start w ↦ rw w.b-is (omega arith, λ k l. absurd (omega arith)) ]
-
-pub entry_meets-requires : goal.entry_meets-requires
-entry_meets-requires c =
-    omega (arith, page-in c.args.page (c.args.start + c.args.len - 1) (length c.args.t.now) c.requires.0 (omega arith))
-
-pub returns-then-entry_meets : goal.returns-then-entry_meets
-returns-then-entry_meets c =
-    let a = c.args in
-    sym (scan-hit a.size a.t.now a.start a.len c.loop-b.b (cc))
-
-pub overflow_add-b-in-loop-b : goal.overflow_add-b-in-loop-b
-overflow_add-b-in-loop-b c =
-    let a = c.args in omega (arith, div-le_self (a.start + a.len - 1) a.page)
-
-pub loop-b-preserved : goal.loop-b-preserved
-loop-b-preserved c =
-    let l = c.loop-b in
-    (omega arith, below_more _ l.b l.invariant.1 (cc))
+pub any-requires-clause-callable : goal.any-requires-clause-callable
+any-requires-clause-callable c =
+    let fits : (c.args.start + c.args.len - 1) / c.args.page + 1 < length c.args.t.now = page-in c.args.page (c.args.start + c.args.len - 1) (length c.args.t.now) c.requires.0 (omega arith) in
+    grind (serving, fits)
 
 pub returns : goal.returns
 returns c =
-    sym (scan-end c.args.size c.args.t.now c.args.start c.args.len c.requires.5 c.requires.0 c.requires.2 c.loop-b.b (omega arith) c.loop-b.invariant.1)
+    let a = c.args in
+    let pre = c.requires in
+    let end = (a.start + a.len - 1) / a.page + 1 + 1 in
+    let first = c.if-size-start.first in
+    let low : (k : ℕ) → k < first → entry_meets a.size a.t.now a.start a.len k ≡ false =
+    elim c.if-size-start.branch [ then-size-start w ↦ rw w.first-is (scan-low a.size a.t.now a.start a.len pre.5 pre.0 w.if-size-start.true) | else-size-start w ↦ λ k l. absurd (omega (arith, w.first-is)) ] in
+    scan-is a.size a.t.now a.start a.len first (end - first) c.any.result pre.5 pre.0 pre.2 (omega arith) low
+    (cases_from_any _ _ _ (λ b. entry_meets a.size a.t.now a.start a.len b ≡ true) (λ b. entry_meets a.size a.t.now a.start a.len b ≡ false) c.any.ensures.ran (YieldsList-from_range first end (end - first) refl refl) (λ x q k. search (rules, tests)) (λ x q k. search (rules, tests)))

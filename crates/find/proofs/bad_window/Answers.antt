@@ -1,14 +1,15 @@
 -- `find::bad_window` meets its contract: the check's refusal, or 8. Assumes nothing.
 use mathlib.Core.Path.{sym, ◌∙◌}
+use Rattle.refusals.proofs.Passing.{passed_on}
 use Rattle.find.proofs.Searches.{answer-refused, answer-window}
 use Rattle.find.proofs.bad_window.Goals as goal
 
-pub returns-in-Refused : goal.returns-in-Refused
-returns-in-Refused c =
+pub returns-in_err-check : goal.returns-in_err-check
+returns-in_err-check c =
     λ w room g. let a = c.args in
-    sym (answer-refused a.m.now a.used w room (sym c.check-v.ensures ∙ c.in-Refused.is))
+    passed_on c.from_residual.result c.from_residual.ensures.1 ∙ sym (answer-refused a.m.now a.used w room (sym c.check.ensures ∙ c.in_err-check.was))
 
-pub returns-in-Accepted : goal.returns-in-Accepted
-returns-in-Accepted c =
+pub returns : goal.returns
+returns c =
     λ w room g. let a = c.args in
-    sym (answer-window a.m.now a.used w room (sym c.check-v.ensures ∙ c.in-Accepted.is) g)
+    sym (answer-window a.m.now a.used w room (sym c.check.ensures ∙ c.in_ok-check.was) g)

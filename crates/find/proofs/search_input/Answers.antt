@@ -8,18 +8,17 @@ use borrow.Author.Tests.{lt-leb, le-leb}
 use Rattle.records.specs.Sizes.{window_size}
 use Rattle.find.specs.Inputs.{program_limit, input_good, input_answer, input_list}
 use Rattle.find.proofs.search_input.Goals as goal
+use Rattle.find.proofs.search_input.Goals.{then-input-lt-SIZE-via-then-input-lt-SIZE, then-input-lt-SIZE-via-else-input-lt-SIZE+then-input}
 
 pub returns-then-input-lt-SIZE : goal.returns-then-input-lt-SIZE
 unfolding input_good input_answer input_list
 returns-then-input-lt-SIZE c =
     let i = c.args.input.now in
-    rw (lt-leb window_size (length i) (omega arith)) (refl, refl)
-
-pub returns-then-used-gt-PROGRAM_LIMIT : goal.returns-then-used-gt-PROGRAM_LIMIT
-unfolding input_good input_answer input_list
-returns-then-used-gt-PROGRAM_LIMIT c =
-    let i = c.args.input.now in
-    rw (le-leb window_size (length i) (omega arith), lt-leb (length i) (window_size + program_limit) (omega arith)) (refl, refl)
+    elim c.then-input-lt-SIZE.branch [
+      | then-input-lt-SIZE-via-then-input-lt-SIZE w ↦ rw (lt-leb window_size (length i) w.if-input-lt-SIZE.true) (refl, refl)
+      | then-input-lt-SIZE-via-else-input-lt-SIZE+then-input w ↦
+          rw (le-leb window_size (length i) w.if-input-lt-SIZE.false, lt-leb (length i) (window_size + program_limit) w.if-input.true) (refl, refl)
+    ]
 
 pub returns : goal.returns
 unfolding input_good input_answer input_list
@@ -27,4 +26,6 @@ returns c =
     let i = c.args.input.now in
     let behind = drop window_size i in
     let whole : take (length i - window_size) behind ≡ behind = take_all (length i - window_size) behind (simp length-drop (omega arith)) in
-    rw (le-leb window_size (length i) (omega arith), le-leb (length i) (window_size + program_limit) (omega arith), ← c.of-w.ensures, ← whole) c.search.ensures
+    let here : length behind ≡ length i - window_size = simp length-drop (omega arith) in
+    rw (le-leb window_size (length i) c.if-input-lt-SIZE.false, le-leb (length i) (window_size + program_limit) c.if-input.false, ← c.of.ensures)
+    (rw (whole, here) at c.search.ensures)

@@ -3,66 +3,66 @@ use native.Mathlib.Omega.{arith}
 use Prim.Native.Nat.{◌*◌, ◌≤◌}
 use mathlib.Core.Path.{◌≡◌, ap, ◌∙◌}
 use lib.ListN.{length}
-use lib.Seq.{sets}
-use Rattle.records.specs.Sizes.{most_blocks}
+use lib.Seq.{sets, length-take-le}
 use Rattle.bits.specs.Bits.{ones_in, word_bits}
-use Rattle.accept.specs.declared.JudgedMap.TheVariants.{Good}
-use Rattle.accept.specs.Verdicts.{slots_judged}
-use Rattle.look.specs.Looks.{block_words, Marked}
+use Rattle.bits.proofs.Bits.{ones-front}
+use Rattle.refusals.proofs.Passing.{passed_on}
+use Rattle.look.specs.Looks.{block_words}
 use Rattle.look.specs.Found.{live_in, found}
-use Rattle.look.proofs.Looks.{slots-low, marked-found, open-judged, open-few}
+use Rattle.look.proofs.Looks.{slots-low, marked-found, open-refused, open-accepted, open-few}
 use Rattle.find.proofs.Searches.{answer-refused, answer-short, answer-found, answers}
 use Rattle.find.proofs.search_words.Goals as goal
 
-pub returns-then-l-ne0 : goal.returns-then-l-ne0
-returns-then-l-ne0 c =
+pub returns-in_err-count : goal.returns-in_err-count
+returns-in_err-count c =
     let a = c.args in
-    answers a.m.now a.used a.w a.list.now
-    (answer-refused a.m.now a.used a.w (length a.list.now) (open-judged a.m.now a.used a.n c.requires.1 (c.look_in_slots-l.ensures.1 c.if-l-ne0.true)))
+    let told = open-refused a.m.now a.used a.n a.w c.requires.1 c.look_in_slots.ensures.0 c.in_err-count.was in
+    let s = answers a.m.now a.used a.w a.list.now (answer-refused a.m.now a.used a.w (length a.list.now) told) in
+    (passed_on c.from_residual.result c.from_residual.ensures.1 ∙ s.0, s.1)
 
-pub overflow_cast-result-then-list-count : goal.overflow_cast-result-then-list-count
-overflow_cast-result-then-list-count c =
-    let good : let a = c.args in (slots_judged a.m.now a.used a.n ≡ Good) × (c.look_in_slots-l.result.count ≡ length (found a.m.now a.n a.w)) × Marked a.m.now a.w c.look_in_slots-l.new.words (block_words * a.n) = c.look_in_slots-l.ensures.0 c.if-l-ne0.false in
-    let low : (c.look_in_slots-l.result.count ≤ 698368) × (c.args.n ≤ most_blocks) = let n = open-few c.requires.0 in
-    (omega (arith, good.1, slots-low (live_in c.args.m.now c.args.w) c.args.n, n), n) in
-    omega (arith, low)
+pub overflow_cast-result : goal.overflow_cast-result
+overflow_cast-result c =
+    let a = c.args in
+    let t = open-accepted a.m.now a.used a.n a.w c.requires.1 c.look_in_slots.ensures.0 c.in_ok-count.was in
+    omega (arith, t.1, slots-low (live_in a.m.now a.w) a.n, open-few c.requires.0)
 
 pub returns-then-list-count : goal.returns-then-list-count
 returns-then-list-count c =
-    let good : let a = c.args in (slots_judged a.m.now a.used a.n ≡ Good) × (c.look_in_slots-l.result.count ≡ length (found a.m.now a.n a.w)) × Marked a.m.now a.w c.look_in_slots-l.new.words (block_words * a.n) = c.look_in_slots-l.ensures.0 c.if-l-ne0.false in
     let a = c.args in
-    answers a.m.now a.used a.w a.list.now
-    (answer-short a.m.now a.used a.w (length a.list.now) (open-judged a.m.now a.used a.n c.requires.1 good.0) c.requires.2 good.1 c.if-list-count.true)
+    let t = open-accepted a.m.now a.used a.n a.w c.requires.1 c.look_in_slots.ensures.0 c.in_ok-count.was in
+    answers a.m.now a.used a.w a.list.now (answer-short a.m.now a.used a.w (length a.list.now) t.0 c.requires.2 t.1 c.if-list-count.true)
 
 pub list_words-requires : goal.list_words-requires
 list_words-requires c =
-    let good : let a = c.args in (slots_judged a.m.now a.used a.n ≡ Good) × (c.look_in_slots-l.result.count ≡ length (found a.m.now a.n a.w)) × Marked a.m.now a.w c.look_in_slots-l.new.words (block_words * a.n) = c.look_in_slots-l.ensures.0 c.if-l-ne0.false in
-    let low : (c.look_in_slots-l.result.count ≤ 698368) × (c.args.n ≤ most_blocks) = let n = open-few c.requires.0 in
-    (omega (arith, good.1, slots-low (live_in c.args.m.now c.args.w) c.args.n, n), n) in
-    let listed : let a = c.args in ones_in word_bits c.look_in_slots-l.new.words (block_words * a.n) ≡ found a.m.now a.n a.w = let a = c.args in
-    marked-found a.m.now a.w c.look_in_slots-l.new.words a.n good.2 in
-    (omega (arith, c.requires.3, c.look_in_slots-l.auto.words), omega (arith, low.1), omega (arith, ap length listed, good.1, c.if-list-count.false))
+    let a = c.args in
+    let t = open-accepted a.m.now a.used a.n a.w c.requires.1 c.look_in_slots.ensures.0 c.in_ok-count.was in
+    let listed : ones_in word_bits c.look_in_slots.new.words (block_words * a.n) ≡ found a.m.now a.n a.w =
+    marked-found a.m.now a.w c.look_in_slots.new.words a.n (c.look_in_slots.ensures.1 c.in_ok-count.count c.in_ok-count.was)
+    in
+    let ws = c.look_in_slots.new.words in
+    let k = block_words * a.n in
+    let room : k ≤ length ws = omega (arith, c.requires.3, c.look_in_slots.auto.words) in
+    let front = ones-front word_bits ws k room in
+    (omega (arith, length-take-le k ws room, open-few c.requires.0), omega (arith, ap length (front ∙ listed), t.1, c.if-list-count.false))
 
 pub overflow_cast-result-2 : goal.overflow_cast-result-2
 overflow_cast-result-2 c =
-    let good : let a = c.args in (slots_judged a.m.now a.used a.n ≡ Good) × (c.look_in_slots-l.result.count ≡ length (found a.m.now a.n a.w)) × Marked a.m.now a.w c.look_in_slots-l.new.words (block_words * a.n) = c.look_in_slots-l.ensures.0 c.if-l-ne0.false in
-    let low : (c.look_in_slots-l.result.count ≤ 698368) × (c.args.n ≤ most_blocks) = let n = open-few c.requires.0 in
-    (omega (arith, good.1, slots-low (live_in c.args.m.now c.args.w) c.args.n, n), n) in
-    omega (arith, low)
+    let a = c.args in
+    let t = open-accepted a.m.now a.used a.n a.w c.requires.1 c.look_in_slots.ensures.0 c.in_ok-count.was in
+    omega (arith, t.1, slots-low (live_in a.m.now a.w) a.n, open-few c.requires.0)
 
 pub overflow_cast-result-3 : goal.overflow_cast-result-3
-overflow_cast-result-3 c =
-    let good : let a = c.args in (slots_judged a.m.now a.used a.n ≡ Good) × (c.look_in_slots-l.result.count ≡ length (found a.m.now a.n a.w)) × Marked a.m.now a.w c.look_in_slots-l.new.words (block_words * a.n) = c.look_in_slots-l.ensures.0 c.if-l-ne0.false in
-    let low : (c.look_in_slots-l.result.count ≤ 698368) × (c.args.n ≤ most_blocks) = let n = open-few c.requires.0 in
-    (omega (arith, good.1, slots-low (live_in c.args.m.now c.args.w) c.args.n, n), n) in
-    omega (arith, low)
+overflow_cast-result-3 c = omega (arith, open-few c.requires.0)
 
 pub returns : goal.returns
 returns c =
-    let good : let a = c.args in (slots_judged a.m.now a.used a.n ≡ Good) × (c.look_in_slots-l.result.count ≡ length (found a.m.now a.n a.w)) × Marked a.m.now a.w c.look_in_slots-l.new.words (block_words * a.n) = c.look_in_slots-l.ensures.0 c.if-l-ne0.false in
-    let listed : let a = c.args in ones_in word_bits c.look_in_slots-l.new.words (block_words * a.n) ≡ found a.m.now a.n a.w = let a = c.args in
-    marked-found a.m.now a.w c.look_in_slots-l.new.words a.n good.2 in
     let a = c.args in
-    let r = answers a.m.now a.used a.w a.list.now
-    (answer-found a.m.now a.used a.w (length a.list.now) (open-judged a.m.now a.used a.n c.requires.1 good.0) c.requires.2 good.1 c.if-list-count.false) in
-    (r.0, c.list_words.ensures ∙ ap (sets a.list.now 0) listed ∙ r.1)
+    let t = open-accepted a.m.now a.used a.n a.w c.requires.1 c.look_in_slots.ensures.0 c.in_ok-count.was in
+    let listed : ones_in word_bits c.look_in_slots.new.words (block_words * a.n) ≡ found a.m.now a.n a.w =
+    marked-found a.m.now a.w c.look_in_slots.new.words a.n (c.look_in_slots.ensures.1 c.in_ok-count.count c.in_ok-count.was)
+    in
+    let s = answers a.m.now a.used a.w a.list.now (answer-found a.m.now a.used a.w (length a.list.now) t.0 c.requires.2 t.1 c.if-list-count.false) in
+    let ws = c.look_in_slots.new.words in
+    let k = block_words * a.n in
+    let room : k ≤ length ws = omega (arith, c.requires.3, c.look_in_slots.auto.words) in
+    (s.0, c.list_words.ensures ∙ ap (sets a.list.now 0) (ones-front word_bits ws k room ∙ listed) ∙ s.1)

@@ -1,4 +1,4 @@
--- `numbers::at_most` meets its contract: the order of the flipped bits, the first without its marks, is the order of values. Assumes nothing.
+-- `numbers::at_most` meets its contract: the signed order, the first without its marks, is the order of values. Assumes nothing.
 use Rattle.numbers.proofs.Coordinates.{unmarked-order}
 use Rattle.numbers.proofs.at_most.Goals as goal
 

@@ -1,19 +1,14 @@
-use mathlib.Core.Path.{◌≡◌, refl, ◌∙◌}
-use native.Mathlib.Omega.{arith}
-use lib.ListN.{length-set}
-use Rattle.numbers.proofs.Runs.{clear_step}
+-- `numbers::clear` meets its contract: zeros go over the front of d. Assumes nothing.
+use mathlib.Core.Path.{◌≡◌, sym}
+use Prim.Native.Nat.{ℕ}
+use lib.ListN.{length, replicate, take, length-replicate}
+use lib.Seq.{length-take-le}
+use Rattle.numbers.proofs.Bytes.{sets-front}
 use Rattle.numbers.proofs.clear.Goals as goal
-
-pub loop-i-init : goal.loop-i-init
-loop-i-init c =
-    (omega arith, refl, refl)
-
-pub loop-i-preserved : goal.loop-i-preserved
-loop-i-preserved c =
-    let l = c.loop-i in
-    (omega arith, simp length-set (omega arith), rw l.invariant.2 (clear_step c.args.d.now l.i))
 
 pub returns : goal.returns
 returns c =
-    let e : c.loop-i.i ≡ c.args.n = omega arith in
-    c.loop-i.invariant.2 ∙ rw e
+    let d = c.args.d.now in
+    let n = c.args.n in
+    let e : length (take n d) ≡ n = length-take-le n d c.requires in
+    sets-front d c.fill.new.self (replicate n 0) n (rw e at (c.fill.ensures.after (λ y h. h))) (sym (length-replicate {A = ℕ} n 0)) c.requires

@@ -3,7 +3,8 @@ use mathlib.Core.Path.{◌≡◌, ap, ◌∙◌}
 use mir.Syntax.{w32}
 use mir.Val.{to_z, of_z}
 use mir.Facts.{to_z-of_z}
-use Rattle.find.specs.Searches.{number_of, place_of, count_of, blocks_of}
+use Rattle.refusals.specs.Refusals.{answer_number, answer_place}
+use Rattle.find.specs.Searches.{count_of, blocks_of}
 use Rattle.taffrail.specs.Calls.{window_from}
 use Rattle.taffrail.proofs.taffrail_search.Goals as goal
 
@@ -18,8 +19,8 @@ returns c =
     } in
     let a = rw same at c.search-a.ensures.0 in
     let l = rw same at c.search-a.ensures.1 in (
-      c.number.ensures ∙ ap number_of a,
-      c.place.ensures ∙ ap place_of a,
+      c.number.ensures ∙ ap answer_number a,
+      c.place.ensures ∙ ap answer_place a,
       c.count.ensures ∙ ap count_of a,
       c.blocks-2.ensures ∙ ap blocks_of a,
       l,

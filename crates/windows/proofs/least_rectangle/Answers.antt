@@ -1,4 +1,3 @@
-use mathlib.Core.Path.{◌≡◌}
 use native.Mathlib.Omega.{arith}
 use Rattle.numbers.proofs.Coordinates.{unmarked-twice}
 use Rattle.windows.proofs.Rectangles.{rectangle-one, rectangle-more, rectangle-bare}
@@ -7,7 +6,7 @@ use Rattle.windows.proofs.least_rectangle.Goals as goal
 
 pub loop-i-init : goal.loop-i-init
 loop-i-init c =
-    (omega arith, omega arith, cc (rectangle-one c.args.part.now))
+    cc (rectangle-one c.args.part.now)
 
 pub join-cover-requires : goal.join-cover-requires
 join-cover-requires c =
@@ -17,11 +16,4 @@ join-cover-requires c =
 
 pub loop-i-preserved : goal.loop-i-preserved
 loop-i-preserved c =
-    let o = c.args.part.now in
-    let i = c.loop-i.i in
-    (omega arith, omega arith, cc (rectangle-more o i (omega arith)))
-
-pub returns : goal.returns
-returns c =
-    let e : c.loop-i.i ≡ c.args.items = omega arith in
-    cc
+    cc (rectangle-more c.args.part.now c.loop-i.i (omega arith))

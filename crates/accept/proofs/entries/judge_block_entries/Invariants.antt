@@ -1,5 +1,4 @@
--- `accept::entries::judge_block_entries` meets its contract, by the laws of the look at the cells of a block. The measure is what is left of the entries. Assumes nothing.
-use Prim.Native.Nat.{◌-◌}
+-- `accept::entries::judge_block_entries` meets its contract, by the laws of the look at the cells of a block. Assumes nothing.
 use Rattle.records.specs.Sizes.{entry_size}
 use Rattle.chain.specs.Cells.{cell_in}
 use Rattle.accept.specs.Opens.{entry_fault}
@@ -7,7 +6,4 @@ use Rattle.accept.proofs.Looking.{Looking}
 use Rattle.accept.proofs.entries.judge_block_entries.Given as goal
 
 abbrev pub invariant-loop-e : goal.invariant-loop-e
-invariant-loop-e l = Looking (cell_in l.block entry_size) 256 (entry_fault l.wide l.m l.used l.index) l.at l.e
-
-abbrev pub decreases-loop-e : goal.decreases-loop-e
-decreases-loop-e l = 256 - l.e
+invariant-loop-e g l = Looking (cell_in l.block entry_size) 256 (entry_fault g.L.Layout.wide l.m l.used l.index) l.e

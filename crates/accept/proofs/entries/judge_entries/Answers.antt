@@ -1,11 +1,11 @@
 use native.Mathlib.Omega.{arith}
-use mathlib.Core.Path.{◌≡◌, sym, ap, ◌∙◌}
+use mathlib.Core.Path.{◌≡◌, sym, ◌∙◌}
 use Rattle.records.specs.Sizes.{entry_size}
+use Rattle.refusals.specs.declared.Refusal.TheVariants.{BadSymbol}
+use Rattle.refusals.proofs.Passing.{passed_on}
 use Rattle.chain.specs.Cells.{cell_in}
 use Rattle.chain.proofs.Chains.{taken_pass}
-use Rattle.records.specs.Headers.{is_wide}
-use Rattle.judge.specs.Judging.{version_of}
-use Rattle.judge.specs.Rules.{family_of, symbol_rule_of}
+use Rattle.judge.specs.Rules.{Family, family_for, symbol_rule_of}
 use Rattle.accept.specs.Verdicts.{cells_judged, entries_judged_of}
 use Rattle.judge.proofs.Judging.{same-touch}
 use Rattle.accept.proofs.Looking.{along-start, along-inside, along-on, along-bad, along-good}
@@ -13,33 +13,36 @@ use Rattle.accept.proofs.entries.judge_entries.Goals as goal
 use Rattle.accept.proofs.entries.judge_entries.Invariants.{at-fault}
 
 pub loop-i-init : goal.loop-i-init
-loop-i-init c =
+loop-i-init g c =
     let m = c.args.m.now in
-    along-start (rw c.requires.1 (taken_pass (symbol_rule_of (family_of m) m c.args.n) m c.args.used)) (omega (arith, c.requires.0.low))
+    along-start (rw c.requires.1 (taken_pass (symbol_rule_of (family_for g.L.Layout.wide) m c.args.n) m c.args.used)) (omega (arith, c.requires.0.low))
 
 pub u32_at-at-requires : goal.u32_at-at-requires
-u32_at-at-requires c =
-    omega (arith, c.loop-i.invariant.room)
+u32_at-at-requires g c = omega (arith, c.loop-i.invariant.room, c.requires.0.indexed.room)
 
-pub judge_layout_entries-j-requires : goal.judge_layout_entries-j-requires
-judge_layout_entries-j-requires c =
-    let layout : c.is_wide-wide.result ≡ is_wide (version_of c.args.m.now) = c.is_wide-wide.ensures ∙ ap is_wide c.u16_at.ensures in
-    (along-inside c.loop-i.invariant c.loop-i-test.true c.u32_at-at.ensures, rw layout c.requires.0.indexed)
+pub judge_block_entries-requires : goal.judge_block_entries-requires
+judge_block_entries-requires g c = (along-inside c.loop-i.invariant c.loop-i-test.true c.u32_at-at.ensures, c.requires.0.indexed)
 
-pub returns-in-Bad : goal.returns-in-Bad
+pub returns-in_err-judge_block_entries : goal.returns-in_err-judge_block_entries
 unfolding entries_judged_of
-returns-in-Bad c =
-    let layout : c.is_wide-wide.result ≡ is_wide (version_of c.args.m.now) = c.is_wide-wide.ensures ∙ ap is_wide c.u16_at.ensures in
-    let told : let a = c.args in c.judge_layout_entries-j.result ≡ cells_judged 6 (λ e. at-fault a.m.now a.used a.n (cell_in c.u32_at-at.result entry_size e)) (cell_in c.u32_at-at.result entry_size) 256 = rw (at-fault, ← same-touch (family_of c.args.m.now) c.requires.0.table) (rw layout at c.judge_layout_entries-j.ensures) in
-    along-bad c.loop-i.invariant c.loop-i-test.true c.u32_at-at.ensures 6 (sym told ∙ c.in-Bad.is)
+returns-in_err-judge_block_entries g c =
+    let a = c.args in
+    let f : Family = family_for g.L.Layout.wide in
+    let told : c.judge_block_entries.result ≡ cells_judged BadSymbol (λ e. at-fault f a.m.now a.used a.n (cell_in c.u32_at-at.result entry_size e)) (cell_in c.u32_at-at.result entry_size) 256 =
+    rw (at-fault, ← same-touch f c.requires.0.table) c.judge_block_entries.ensures
+    in
+    passed_on c.from_residual.result c.from_residual.ensures.1
+    ∙ along-bad c.loop-i.invariant c.loop-i-test.true c.u32_at-at.ensures BadSymbol (sym told ∙ c.in_err-judge_block_entries.was)
 
 pub loop-i-preserved : goal.loop-i-preserved
-loop-i-preserved c =
-    let layout : c.is_wide-wide.result ≡ is_wide (version_of c.args.m.now) = c.is_wide-wide.ensures ∙ ap is_wide c.u16_at.ensures in
-    let told : let a = c.args in c.judge_layout_entries-j.result ≡ cells_judged 6 (λ e. at-fault a.m.now a.used a.n (cell_in c.u32_at-at.result entry_size e)) (cell_in c.u32_at-at.result entry_size) 256 = rw (at-fault, ← same-touch (family_of c.args.m.now) c.requires.0.table) (rw layout at c.judge_layout_entries-j.ensures) in
-    along-on c.loop-i.invariant c.loop-i-test.true c.u32_at-at.ensures (omega arith) 6 (sym told ∙ c.in-Good.is)
+loop-i-preserved g c =
+    let a = c.args in
+    let f : Family = family_for g.L.Layout.wide in
+    let told : c.judge_block_entries.result ≡ cells_judged BadSymbol (λ e. at-fault f a.m.now a.used a.n (cell_in c.u32_at-at.result entry_size e)) (cell_in c.u32_at-at.result entry_size) 256 =
+    rw (at-fault, ← same-touch f c.requires.0.table) c.judge_block_entries.ensures
+    in
+    along-on c.loop-i.invariant c.loop-i-test.true c.u32_at-at.ensures (omega arith) BadSymbol (sym told ∙ c.in_ok-judge_block_entries.was)
 
 pub returns : goal.returns
 unfolding entries_judged_of
-returns c =
-    along-good c.loop-i.invariant 6 c.loop-i-test.false
+returns g c = along-good c.loop-i.invariant BadSymbol c.loop-i-test.false

@@ -1,67 +1,78 @@
 use native.Mathlib.Omega.{arith}
-use Prim.Native.Nat.{ℕ, ◌+◌, ◌≤◌}
-use mathlib.Core.Path.{◌≡◌, refl, sym, ap, ◌∙◌}
-use mathlib.Core.Bool.{true, false}
-use Rattle.records.specs.Sizes.{index_block_size}
+use Prim.Native.Nat.{ℕ, ◌+◌, ◌*◌, ◌≤◌, ◌<◌}
+use mathlib.Core.Path.{◌≡◌, sym, ap, ◌∙◌}
+use mathlib.Core.Bool.{Bool, true, false}
+use Rattle.std.specs.Prelude.{Result, Ok, Err}
+use Rattle.refusals.specs.declared.Refusal.{Refusal}
+use Rattle.refusals.specs.declared.Refusal.TheVariants.{BadSlot}
+use Rattle.refusals.specs.Refusals.{Judged, unless}
+use Rattle.numbers.specs.Below.{first}
 use Rattle.chain.specs.Cells.{cell_in}
-use Rattle.chain.specs.Tables.{ends_meet}
-use Rattle.judge.specs.Judging.{bad_slot, no_len}
-use Rattle.accept.specs.Opens.{first_free, free_in}
-use Rattle.accept.proofs.Firsts.{first_or, or-found, or-not, or-none, or-all}
-use Rattle.judge.proofs.States.{no-len, has-len, fault-free}
-use Rattle.accept.proofs.Looking.{look-start, look-on, look-found, look_none}
+use Rattle.judge.specs.Rules.{Family, family_for}
+use Rattle.accept.specs.Opens.{slot_fault_for}
+use Rattle.accept.specs.Verdicts.{cells_judged}
+use Rattle.accept.proofs.Firsts.{first_free, lesser-free, first_or, or-found, or-not, or-none, or-all}
+use Rattle.accept.proofs.Looking.{look-start, look-on, look-bad, look-good}
 use Rattle.accept.proofs.live.judge_block_slots.Goals as goal
-use Rattle.accept.proofs.live.judge_block_slots.Goals.{else-t-eq0+else-bad_slot, then-t-eq0}
+use Rattle.accept.proofs.live.judge_block_slots.Goals.{then-is_free, else-is_free}
+
+-- a slot lies in its block
+cell-fits : (b : Bool) (j : ℕ) → j < 256 → 4 + (family_for b).slot * j + (family_for b).slot ≤ (family_for b).block
+cell-fits true j l = omega arith
+cell-fits false j l = omega arith
 
 pub loop-j-init : goal.loop-j-init
-unfolding cell_in
-loop-j-init c =
+loop-j-init g c =
     let a = c.args in
-    (look-start (omega arith), sym (or-none (free_in a.m.now a.block) 256))
+    let f : Family = family_for g.L.Layout.wide in
+    (look-start, sym (or-none (λ j. g.L.Layout.free a.m.now (cell_in a.block f.slot j)) 256))
 
-pub at-t-requires : goal.at-t-requires
+pub slot_at_fault-requires : goal.slot_at_fault-requires
 unfolding cell_in
-at-t-requires c =
-    let inside : c.loop-j.at + 24 ≤ c.args.used = omega (arith, c.requires.0, c.loop-j.invariant.0.here, c.loop-j-test.true) in
-    omega (arith, inside)
+slot_at_fault-requires g c =
+    (omega (arith, cell-fits g.L.Layout.wide c.loop-j.j c.loop-j-test.true, c.slot_place-at.ensures, c.requires.0), c.requires.1, c.requires.2)
 
-pub bad_slot-requires : goal.bad_slot-requires
-bad_slot-requires c =
-    let pre = c.requires in
-    (pre.1, c.if-t-eq0.false)
-
-pub returns-then-bad_slot : goal.returns-then-bad_slot
-returns-then-bad_slot c = (
-  look-found c.loop-j.invariant.0 c.loop-j-test.true (sym (c.bad_slot.ensures c.loop-j.at c.at-t.ensures) ∙ c.if-bad_slot.true),
-  λ e. absurd (omega (arith, c.loop-j-test.true)),
-)
-
-pub overflow_add-at-in-loop-j : goal.overflow_add-at-in-loop-j
+pub overflow_cast-result : goal.overflow_cast-result
 unfolding cell_in
-overflow_add-at-in-loop-j c =
-    let inside : c.loop-j.at + 24 ≤ c.args.used = omega (arith, c.requires.0, c.loop-j.invariant.0.here, c.loop-j-test.true) in
-    omega (arith, inside)
+overflow_cast-result g c =
+    omega (arith, cell-fits g.L.Layout.wide c.loop-j.j c.loop-j-test.true, c.slot_place-at.ensures, c.requires.0, c.requires.2.limit)
+
+pub is_free-requires : goal.is_free-requires
+unfolding cell_in
+is_free-requires g c =
+    omega (arith, cell-fits g.L.Layout.wide c.loop-j.j c.loop-j-test.true, c.slot_place-at.ensures, c.requires.0, c.requires.2.room)
+
+pub returns-then-slot_at_fault : goal.returns-then-slot_at_fault
+returns-then-slot_at_fault g c =
+    let a = c.args in
+    let f : Family = family_for g.L.Layout.wide in
+    let cells : Judged = cells_judged BadSlot (λ j. slot_fault_for g.L.Layout.wide a.m.now a.used a.index.now (cell_in a.block f.slot j)) (cell_in a.block f.slot) 256 in
+    let free : ℕ = first (λ j. g.L.Layout.free a.m.now (cell_in a.block f.slot j)) 256 in
+    let bad : Err (BadSlot c.slot_place-at.result) ≡ cells = look-bad c.loop-j.invariant.0 c.slot_place-at.ensures c.loop-j-test.true c.slot_at_fault.ensures c.if-slot_at_fault.true BadSlot in
+    let told : ◌≡◌ {A = Result ℕ Refusal} (Err (BadSlot c.slot_place-at.result)) (unless cells (Ok free)) = ap (λ (j : Judged). unless j (Ok free)) bad in
+    told
 
 pub loop-j-preserved : goal.loop-j-preserved
-unfolding cell_in
-loop-j-preserved c =
-    let good : let a = c.args in bad_slot (ends_meet index_block_size a.index.now) a.m.now a.used a.version c.loop-j.at ≡ false = let a = c.args in
-    elim c.if-t-eq0.branch [ then-t-eq0 w ↦ fault-free (ends_meet index_block_size a.index.now) a.m.now a.used a.version c.loop-j.at c.at-t.ensures w.if-t-eq0.true | else-t-eq0+else-bad_slot w ↦ sym (w.bad_slot.ensures c.loop-j.at c.at-t.ensures) ∙ w.if-bad_slot.false ] in
-    let found : let a = c.args in c.if-t-eq0.free ≡ first_or (free_in a.m.now a.block) (c.loop-j.j + 1) 256 = let l = c.loop-j in
+loop-j-preserved g c =
     let a = c.args in
-    let here = ap (no_len a.m.now) (sym l.invariant.0.here) in
-    elim c.if-t-eq0.branch [
-      | then-t-eq0 w ↦ w.free-is ∙ w.first_free-free.ensures ∙ ap (λ (x : ℕ). first_free true x l.j) l.invariant.1
-          ∙ or-found (free_in a.m.now a.block) l.j 256 c.loop-j-test.true (here ∙ no-len a.m.now l.at c.at-t.ensures w.if-t-eq0.true)
-      | else-t-eq0+else-bad_slot w ↦ w.free-is ∙ l.invariant.1
-          ∙ or-not (free_in a.m.now a.block) l.j 256 c.loop-j-test.true (here ∙ has-len a.m.now l.at c.at-t.ensures w.if-t-eq0.false)
-    ] in
-    let v = c.loop-j.invariant.0 in
-    (look-on v c.loop-j-test.true refl good (omega (arith, v.here)), found)
+    let l = c.loop-j in
+    let f : Family = family_for g.L.Layout.wide in
+    let free : ℕ → Bool = λ j. g.L.Layout.free a.m.now (cell_in a.block f.slot j) in
+    let here = ap (g.L.Layout.free a.m.now) (sym c.slot_place-at.ensures) in
+    let found : c.if-is_free.free ≡ first_or free (l.j + 1) 256 =
+    elim c.if-is_free.branch [
+      | then-is_free w ↦ w.free-is ∙ w.min-free.ensures ∙ lesser-free l.free l.j ∙ ap (λ (x : ℕ). first_free true x l.j) l.invariant.1
+          ∙ or-found free l.j 256 c.loop-j-test.true (here ∙ sym c.is_free.ensures ∙ w.if-is_free.true)
+      | else-is_free w ↦ w.free-is ∙ l.invariant.1 ∙ or-not free l.j 256 c.loop-j-test.true (here ∙ sym c.is_free.ensures ∙ w.if-is_free.false)
+    ]
+    in
+    (look-on l.invariant.0 c.slot_place-at.ensures c.loop-j-test.true c.slot_at_fault.ensures c.if-slot_at_fault.false, found)
 
 pub returns : goal.returns
-returns c =
+returns g c =
     let a = c.args in
+    let f : Family = family_for g.L.Layout.wide in
+    let free : ℕ → Bool = λ j. g.L.Layout.free a.m.now (cell_in a.block f.slot j) in
     let v = c.loop-j.invariant in
     let e : c.loop-j.j ≡ 256 = omega (arith, v.0.upto, c.loop-j-test.false) in
-    (look_none v.0 c.loop-j-test.false, λ g. v.1 ∙ ap (λ (x : ℕ). first_or (free_in a.m.now a.block) x 256) e ∙ or-all (free_in a.m.now a.block) 256)
+    rw (← look-good v.0 c.loop-j-test.false BadSlot) (ap Ok (v.1 ∙ ap (λ (x : ℕ). first_or free x 256) e ∙ or-all free 256))

@@ -1,108 +1,102 @@
 use native.Mathlib.Omega.{arith}
-use Prim.Native.Nat.{ℕ, ◌+◌, ◌*◌, ◌≤◌}
+use Prim.Native.Nat.{ℕ, ◌+◌, ◌*◌}
 use mathlib.Core.Path.{◌≡◌, sym, ap, ◌∙◌}
+use mathlib.Core.Bool.{Bool}
 use lib.Dec.{ltb}
-use Rattle.numbers.specs.Bytes.{u32_at}
+use borrow.Author.Tests.{lt-ltb, le-ltb}
+use Rattle.std.specs.Prelude.{Result, Ok}
+use Rattle.refusals.specs.declared.Refusal.{Refusal}
+use Rattle.refusals.specs.declared.Refusal.TheVariants.{BadSlot}
+use Rattle.refusals.specs.Refusals.{Judged, good, unless}
+use Rattle.refusals.proofs.Passing.{passed_on, unless_tells, unless_refuses}
+use Rattle.numbers.specs.Below.{first}
 use Rattle.numbers.proofs.Below.{First, first-law}
-use Rattle.records.specs.Sizes.{slot_size}
-use Rattle.chain.specs.Chains.{place}
 use Rattle.chain.specs.Cells.{cell_in}
 use Rattle.chain.proofs.Chains.{walked-pass}
-use Rattle.accept.specs.declared.ExaminedMap.TheVariants.{Accepted}
-use Rattle.judge.specs.Rules.{narrow, index_rule}
-use Rattle.judge.specs.Judging.{no_len}
-use Rattle.accept.specs.Slots.{free_slot}
-use Rattle.accept.specs.Opens.{first_free, free_in}
-use Rattle.accept.specs.Verdicts.{slots_judged_of}
+use Rattle.judge.specs.Rules.{Family, family_for, index_rule_of, slot_at_of}
 use Rattle.judge.proofs.Judging.{same-touch}
-use Rattle.accept.proofs.Firsts.{first-same, first_or, or-run, or-none, or-all}
-use Rattle.accept.proofs.Slots.{free-len}
-use Rattle.accept.proofs.Looking.{cells-good, cells-bad, along-start, along-inside, along-cell, along-on, along-bad, along-good, pass-few}
+use Rattle.judge.proofs.Rules.{sized}
+use Rattle.accept.specs.Verdicts.{cells_judged, slots_judged_of}
+use Rattle.accept.proofs.Firsts.{first-same, first_free, lesser-free, first_or, or-run, or-none, or-all}
+use Rattle.accept.proofs.Looking.{along-start, along-inside, along-cell, along-on, along-bad, along-good, pass-few}
 use Rattle.accept.proofs.live.judge_slots.Goals as goal
-use Rattle.accept.proofs.live.judge_slots.Invariants.{at-fault, is_free_at}
+use Rattle.accept.proofs.live.judge_slots.Goals.{then-found-lt-SLOTS, else-found-lt-SLOTS}
+use Rattle.accept.proofs.live.judge_slots.Invariants.{at-fault}
 
 pub overflow_mul-free : goal.overflow_mul-free
-overflow_mul-free c =
-    let few : c.args.n ≤ c.args.used = pass-few (walked-pass (index_rule c.args.m.now) c.args.m.now c.args.used c.requires.0.index) (omega arith) in
-    omega (arith, few)
+overflow_mul-free g c =
+    let f : Family = family_for g.L.Layout.wide in
+    omega (arith, pass-few (walked-pass (index_rule_of f c.args.m.now) c.args.m.now c.args.used c.requires.index) (omega (arith, (sized g.L.Layout.wide).least)), c.requires.indexed.limit)
 
 pub loop-k-init : goal.loop-k-init
-unfolding place
-loop-k-init c = (
-  along-start (walked-pass (index_rule c.args.m.now) c.args.m.now c.args.used c.requires.0.index) (omega arith),
-  c.u32_at-at.ensures,
-  sym (or-none (is_free_at c.args.m.now) (256 * c.args.n)),
-)
-
-pub judge_block_slots-seen-requires : goal.judge_block_slots-seen-requires
-judge_block_slots-seen-requires c =
-    let inside : c.loop-k.at + 6148 ≤ c.args.used = along-inside c.loop-k.invariant.0 c.loop-k-test.true c.loop-k.invariant.1 in
-    let pre = c.requires in
-    (inside, pre.0.indexed)
-
-pub slot-requires : goal.slot-requires
-slot-requires c =
-    let inside : c.loop-k.at + 6148 ≤ c.args.used = along-inside c.loop-k.invariant.0 c.loop-k-test.true c.loop-k.invariant.1 in
-    (omega (arith, c.new.ensures, inside, c.requires.0.indexed.limit), c.if-seen-lt-SLOTS.true)
-
-pub overflow_cast-result : goal.overflow_cast-result
-overflow_cast-result c =
-    let inside : c.loop-k.at + 6148 ≤ c.args.used = along-inside c.loop-k.invariant.0 c.loop-k-test.true c.loop-k.invariant.1 in
-    omega (arith, c.slot.ensures, c.new.ensures, c.if-seen-lt-SLOTS.true, inside, c.requires.0.indexed.limit)
-
-pub returns-then-seen-lt-SLOTS : goal.returns-then-seen-lt-SLOTS
-unfolding slots_judged_of cell_in
-returns-then-seen-lt-SLOTS c =
-    let bad : let a = c.args in First (λ j. at-fault a.m.now a.used a.n (cell_in c.loop-k.at slot_size j)) 256 c.judge_block_slots-seen.result.bad = let a = c.args in
-    rw (c.judge_block_slots-seen.ensures.0, same-touch narrow c.requires.0.table, c.u16_at-version.ensures) (first-law (λ j. at-fault a.m.now a.used a.n (cell_in c.loop-k.at slot_size j)) 256) in
-    let stands : c.slot.result ≡ cell_in c.loop-k.at slot_size c.judge_block_slots-seen.result.bad = omega (arith, c.slot.ensures, c.new.ensures) in
-    let l = c.loop-k in
+loop-k-init g c =
     let a = c.args in
-    let fault = cells-bad 7 (λ j. at-fault a.m.now a.used a.n (cell_in l.at slot_size j)) (cell_in l.at slot_size) 256 bad c.if-seen-lt-SLOTS.true in
-    rw (c.requires.1, ← along-bad l.invariant.0 c.loop-k-test.true l.invariant.1 7 fault, stands)
+    let f : Family = family_for g.L.Layout.wide in (
+      along-start (walked-pass (index_rule_of f a.m.now) a.m.now a.used c.requires.index) (omega (arith, c.requires.low)),
+      sym (or-none (λ s. g.L.Layout.free a.m.now (slot_at_of f a.m.now s)) (256 * a.n)),
+    )
+
+pub u32_at-at-requires : goal.u32_at-at-requires
+u32_at-at-requires g c = omega (arith, c.loop-k.invariant.0.room, c.requires.indexed.room)
+
+pub judge_block_slots-requires : goal.judge_block_slots-requires
+judge_block_slots-requires g c =
+    (along-inside c.loop-k.invariant.0 c.loop-k-test.true c.u32_at-at.ensures, c.u16_at-version.ensures, c.requires.indexed)
+
+pub returns-in_err-found : goal.returns-in_err-found
+unfolding slots_judged_of
+returns-in_err-found g c =
+    let a = c.args in
+    let f : Family = family_for g.L.Layout.wide in
+    let at = c.u32_at-at.result in
+    let told : c.judge_block_slots.result ≡ unless (cells_judged BadSlot (λ j. at-fault f a.m.now a.used a.n (cell_in at f.slot j)) (cell_in at f.slot) 256) (Ok (first (λ j. g.L.Layout.free a.m.now (cell_in at f.slot j)) 256)) =
+    rw (at-fault, ← same-touch f c.requires.table) c.judge_block_slots.ensures
+    in
+    let bad = unless_refuses _ _ (sym told ∙ c.in_err-found.was) in
+    passed_on c.from_residual.result c.from_residual.ensures.1
+    ∙ rw (← along-bad c.loop-k.invariant.0 c.loop-k-test.true c.u32_at-at.ensures BadSlot bad)
 
 pub overflow_mul-k : goal.overflow_mul-k
-overflow_mul-k c =
-    omega (arith, pass-few c.loop-k.invariant.0.pass (omega arith))
+overflow_mul-k g c =
+    omega (arith, pass-few c.loop-k.invariant.0.pass (omega (arith, (sized g.L.Layout.wide).least)), c.requires.indexed.limit)
 
 pub overflow_add-k : goal.overflow_add-k
-overflow_add-k c =
-    let bad : let a = c.args in First (λ j. at-fault a.m.now a.used a.n (cell_in c.loop-k.at slot_size j)) 256 c.judge_block_slots-seen.result.bad = let a = c.args in
-    rw (c.judge_block_slots-seen.ensures.0, same-touch narrow c.requires.0.table, c.u16_at-version.ensures) (first-law (λ j. at-fault a.m.now a.used a.n (cell_in c.loop-k.at slot_size j)) 256) in
-    let free : 256 ≤ c.judge_block_slots-seen.result.bad → First (free_in c.args.m.now c.loop-k.at) 256 c.judge_block_slots-seen.result.free = λ l. rw (c.judge_block_slots-seen.ensures.1 (omega (arith, bad.within))) (first-law (free_in c.args.m.now c.loop-k.at) 256) in
-    omega (arith, pass-few c.loop-k.invariant.0.pass (omega arith), (free c.if-seen-lt-SLOTS.false).within)
-
-pub u32_at-at-requires-in-loop-k : goal.u32_at-at-requires-in-loop-k
-u32_at-at-requires-in-loop-k c =
-    let inside : c.loop-k.at + 6148 ≤ c.args.used = along-inside c.loop-k.invariant.0 c.loop-k-test.true c.loop-k.invariant.1 in
-    omega (arith, inside, c.requires.0.indexed.room)
+overflow_add-k g c =
+    omega (arith, pass-few c.loop-k.invariant.0.pass (omega (arith, (sized g.L.Layout.wide).least)), c.requires.indexed.limit, c.if-found-lt-SLOTS.true)
 
 pub loop-k-preserved : goal.loop-k-preserved
-loop-k-preserved c =
-    let bad : let a = c.args in First (λ j. at-fault a.m.now a.used a.n (cell_in c.loop-k.at slot_size j)) 256 c.judge_block_slots-seen.result.bad = let a = c.args in
-    rw (c.judge_block_slots-seen.ensures.0, same-touch narrow c.requires.0.table, c.u16_at-version.ensures) (first-law (λ j. at-fault a.m.now a.used a.n (cell_in c.loop-k.at slot_size j)) 256) in
-    let free : 256 ≤ c.judge_block_slots-seen.result.bad → First (free_in c.args.m.now c.loop-k.at) 256 c.judge_block_slots-seen.result.free = λ l. rw (c.judge_block_slots-seen.ensures.1 (omega (arith, bad.within))) (first-law (free_in c.args.m.now c.loop-k.at) 256) in
-    let l = c.loop-k in
+loop-k-preserved g c =
     let a = c.args in
-    let left = c.if-seen-lt-SLOTS.false in
-    let none = cells-good 7 (λ j. at-fault a.m.now a.used a.n (cell_in l.at slot_size j)) (cell_in l.at slot_size) 256 (λ i g. bad.before i (omega arith)) in
-    let w = along-on l.invariant.0 c.loop-k-test.true l.invariant.1 (omega arith) 7 none in
-    let f : ℕ = c.judge_block_slots-seen.result.free in
-    let h = first-same (λ j g. free-len a.m.now (256 * l.k + j) ∙ ap (no_len a.m.now) (along-cell l.invariant.0 c.loop-k-test.true l.invariant.1 j g)) (free left) in
-    let e : 256 * l.k + 256 ≡ 256 * (l.k + 1) = omega arith in (
-      rw (← w.link) w,
-      c.u32_at-at-in-loop-k.ensures ∙ ap (u32_at a.m.now) w.link,
-      c.first_free-free.ensures ∙ ap (λ (x : ℕ). first_free (ltb f 256) x (256 * l.k + f)) l.invariant.2
-          ∙ or-run (is_free_at a.m.now) (256 * l.k) 256 (256 * a.n) f (omega (arith, c.loop-k-test.true)) h
-          ∙ ap (λ (x : ℕ). first_or (is_free_at a.m.now) x (256 * a.n)) e,
+    let l = c.loop-k in
+    let f : Family = family_for g.L.Layout.wide in
+    let at = c.u32_at-at.result in
+    let is_free : ℕ → Bool = λ s. g.L.Layout.free a.m.now (slot_at_of f a.m.now s) in
+    let free : ℕ → Bool = λ j. g.L.Layout.free a.m.now (cell_in at f.slot j) in
+    let cells : Judged = cells_judged BadSlot (λ j. at-fault f a.m.now a.used a.n (cell_in at f.slot j)) (cell_in at f.slot) 256 in
+    let told : c.judge_block_slots.result ≡ unless cells (Ok (first free 256)) = rw (at-fault, ← same-touch f c.requires.table) c.judge_block_slots.ensures in
+    let tells : (cells ≡ good) × (◌≡◌ {A = Result ℕ Refusal} (Ok (first free 256)) (Ok c.in_ok-found.found)) = unless_tells cells (sym told ∙ c.in_ok-found.was) in
+    let n : ℕ = c.in_ok-found.found in
+    let is : first free 256 ≡ n = let e = tells.1 in cc in
+    let law : First free 256 n = rw (← is) (first-law free 256) in
+    let h = first-same (λ j i. ap (g.L.Layout.free a.m.now) (along-cell l.invariant.0 c.loop-k-test.true c.u32_at-at.ensures j i)) law in
+    let after = or-run is_free (256 * l.k) 256 (256 * a.n) n (omega (arith, c.loop-k-test.true)) h in
+    let e : 256 * l.k + 256 ≡ 256 * (l.k + 1) = omega arith in
+    let lesser : c.if-found-lt-SLOTS.free ≡ first_free (ltb n 256) l.free (256 * l.k + n) =
+    elim c.if-found-lt-SLOTS.branch [
+      | then-found-lt-SLOTS w ↦ w.free-is ∙ w.min-free.ensures ∙ lesser-free l.free (256 * l.k + n) ∙ rw (lt-ltb n 256 w.if-found-lt-SLOTS.true)
+      | else-found-lt-SLOTS w ↦ w.free-is ∙ rw (le-ltb n 256 w.if-found-lt-SLOTS.false)
+    ]
+    in (
+      along-on l.invariant.0 c.loop-k-test.true c.u32_at-at.ensures (omega (arith, (sized g.L.Layout.wide).least)) BadSlot tells.0,
+      lesser ∙ ap (λ (x : ℕ). first_free (ltb n 256) x (256 * l.k + n)) l.invariant.1 ∙ after ∙ ap (λ (x : ℕ). first_or is_free x (256 * a.n)) e,
     )
 
 pub returns : goal.returns
-unfolding slots_judged_of free_slot
-returns c =
+unfolding slots_judged_of
+returns g c =
     let a = c.args in
     let v = c.loop-k.invariant in
+    let is_free : ℕ → Bool = λ s. g.L.Layout.free a.m.now (slot_at_of (family_for g.L.Layout.wide) a.m.now s) in
     let e : c.loop-k.k ≡ a.n = omega (arith, v.0.upto, c.loop-k-test.false) in
-    let narrowly = c.requires.1 in
-    rw (narrowly, ← along-good v.0 7 c.loop-k-test.false)
-    (rw narrowly (ap (Accepted a.n) (v.2 ∙ ap (λ (x : ℕ). first_or (is_free_at a.m.now) (256 * x) (256 * a.n)) e ∙ or-all (is_free_at a.m.now) (256 * a.n))))
+    rw (← along-good v.0 BadSlot c.loop-k-test.false)
+    (ap Ok (v.1 ∙ ap (λ (x : ℕ). first_or is_free (256 * x) (256 * a.n)) e ∙ or-all is_free (256 * a.n)))

@@ -1,95 +1,62 @@
-use native.Mathlib.Omega.{arith}
-use Prim.Native.Nat.{◌+◌, ◌≤◌}
+use Prim.Native.Nat.{ℕ, ◌+◌, ◌*◌}
 use mathlib.Core.Path.{◌≡◌, refl, sym, ap, ◌∙◌}
-use mathlib.Core.Bool.{false}
-use Rattle.records.specs.Sizes.{index_block_size, slot_size}
-use Rattle.chain.specs.Tables.{ends_meet}
-use Rattle.judge.specs.Judging.{bad_slot}
-use Rattle.judge.proofs.States.{fault-free}
-use Rattle.accept.proofs.Looking.{look-start, look-on, look-found, look_none}
-use Rattle.judge.specs.Rules.{narrow}
+use mathlib.Core.Bool.{Bool}
+use Rattle.std.specs.Prelude.{Ok}
+use Rattle.refusals.specs.declared.Refusal.TheVariants.{BadSlot}
+use Rattle.refusals.specs.Refusals.{Judged, unless}
+use Rattle.bits.specs.Bits.{bits_from, word_bits}
+use Rattle.accept.proofs.Looking.{look-start, look-on, look-bad, look-good}
+use Rattle.judge.specs.Rules.{Family, family_for}
 use Rattle.look.specs.Found.{live_at}
 use Rattle.look.specs.Looks.{slot_from, live_from}
-use Rattle.look.proofs.Looks.{one_at_most, Looks, looks-start, looks-low, looks_on, looks-past, looks-done, unwanted-free, unwanted-erased, wanted-live}
+use Rattle.look.proofs.Looks.{looks-start, looks_on, looks-past, looks-done, unwanted, wanted, unjudged, slot-inside}
 use Rattle.look.proofs.words.look_in_word.Goals as goal
-use Rattle.look.proofs.words.look_in_word.Goals.{then-t-ne0+else-bad_slot+then-t-ne0-2, then-t-ne0+else-bad_slot+else-t-ne0-2, else-t-ne0}
+use Rattle.look.proofs.words.look_in_word.Goals.{then-live+else-slot_at_fault, else-live}
 
 pub loop-j-init : goal.loop-j-init
+loop-j-init g c = (look-start, looks-start (live_from (family_for g.L.Layout.wide) c.args.m.now c.args.w c.args.from))
+
+pub slot_at_fault-requires : goal.slot_at_fault-requires
+slot_at_fault-requires g c =
+    rw (c.SLOT.ensures, g.met.L.Layout.slot_is)
+    (slot-inside g.L.Layout.wide c.args.from c.args.used c.loop-j.j c.requires.1 c.loop-j-test.true, c.requires.0, c.requires.2)
+
+pub returns-then-slot_at_fault : goal.returns-then-slot_at_fault
 unfolding slot_from
-loop-j-init c =
-    let a = c.args in
-    (look-start (omega arith), looks-start (live_from narrow a.m.now a.w a.from))
-
-pub at-t-requires : goal.at-t-requires
-unfolding slot_from
-at-t-requires c =
-    let inside : c.loop-j.at + slot_size ≤ c.args.used = omega (arith, c.requires.0, c.loop-j.invariant.0.here, c.loop-j-test.true) in
-    omega (arith, inside, c.requires.1.room)
-
-pub bad_slot-requires : goal.bad_slot-requires
-bad_slot-requires c =
-    let pre = c.requires in
-    (pre.1, c.if-t-ne0.true)
-
-pub returns-then-bad_slot : goal.returns-then-bad_slot
-returns-then-bad_slot c = (
-  look-found c.loop-j.invariant.0 c.loop-j-test.true (sym (c.bad_slot.ensures c.loop-j.at c.at-t.ensures) ∙ c.if-bad_slot.true),
-  λ e. absurd (omega (arith, c.loop-j-test.true)),
-)
-
-pub meets_window-hit-requires : goal.meets_window-hit-requires
-meets_window-hit-requires c =
-    tt
-
-pub overflow_cast-bits : goal.overflow_cast-bits
-overflow_cast-bits c =
-    tt
-
-pub overflow_mul-bits : goal.overflow_mul-bits
-overflow_mul-bits c =
-    omega (arith, one_at_most c.meets_window-hit.result)
-
-pub overflow_add-bits : goal.overflow_add-bits
-overflow_add-bits c =
-    omega (arith, one_at_most c.meets_window-hit.result, looks-low c.loop-j.invariant.1 c.loop-j.invariant.0.upto)
-
-pub overflow_add-at : goal.overflow_add-at
-unfolding slot_from
-overflow_add-at c =
-    let inside : c.loop-j.at + slot_size ≤ c.args.used = omega (arith, c.requires.0, c.loop-j.invariant.0.here, c.loop-j-test.true) in
-    omega (arith, inside, c.requires.1.limit)
-
-pub overflow_add-j : goal.overflow_add-j
-overflow_add-j c =
-    omega (arith, c.loop-j-test.true)
-
-pub loop-j-smaller : goal.loop-j-smaller
-loop-j-smaller c =
-    omega (arith, c.loop-j-test.true)
+returns-then-slot_at_fault g c =
+    let f : Family = family_for g.L.Layout.wide in
+    let e : c.SLOT.result ≡ f.slot = c.SLOT.ensures ∙ g.met.L.Layout.slot_is in
+    let here : c.args.from + c.SLOT.result * c.loop-j.j ≡ slot_from f.slot c.args.from c.loop-j.j = ap (λ (z : ℕ). c.args.from + z * c.loop-j.j) e in
+    ap (λ (j : Judged). unless j (Ok (bits_from (live_from f c.args.m.now c.args.w c.args.from) 0 word_bits)))
+    (look-bad c.loop-j.invariant.0 here c.loop-j-test.true c.slot_at_fault.ensures c.if-slot_at_fault.true BadSlot)
 
 pub loop-j-preserved : goal.loop-j-preserved
 unfolding slot_from
-loop-j-preserved c =
-    let good : let a = c.args in bad_slot (ends_meet index_block_size a.index.now) a.m.now a.used a.version c.loop-j.at ≡ false = let at = c.loop-j.at in
+loop-j-preserved g c =
     let a = c.args in
-    elim c.if-t-ne0.branch [
-      | then-t-ne0+else-bad_slot+then-t-ne0-2 w ↦ sym (w.bad_slot.ensures at c.at-t.ensures) ∙ w.if-bad_slot.false
-      | then-t-ne0+else-bad_slot+else-t-ne0-2 w ↦ sym (w.bad_slot.ensures at c.at-t.ensures) ∙ w.if-bad_slot.false
-      | else-t-ne0 w ↦ fault-free (ends_meet index_block_size a.index.now) a.m.now a.used a.version at c.at-t.ensures w.if-t-ne0.false
-    ] in
-    let found : let a = c.args in Looks (live_from narrow a.m.now a.w a.from) c.if-t-ne0.bits (c.loop-j.j + 1) = let l = c.loop-j in
-    let a = c.args in
+    let l = c.loop-j in
     let h = c.loop-j-test.true in
-    let here = ap (live_at narrow a.m.now a.w) (sym l.invariant.0.here) in
-    elim c.if-t-ne0.branch [
-      | then-t-ne0+else-bad_slot+then-t-ne0-2 w ↦ rw w.bits-is (looks_on l.invariant.1 h w.meets_window-hit.result (here ∙ wanted-live a.m.now a.w l.at c.at-t.ensures w.if-t-ne0.true w.if-t-ne0-2.true ∙ sym w.meets_window-hit.ensures))
-      | then-t-ne0+else-bad_slot+else-t-ne0-2 w ↦ rw w.bits-is (looks-past l.invariant.1 h (here ∙ unwanted-erased a.m.now a.w l.at c.at-t.ensures w.if-t-ne0.true w.if-t-ne0-2.false))
-      | else-t-ne0 w ↦ rw w.bits-is (looks-past l.invariant.1 h (here ∙ unwanted-free a.m.now a.w l.at c.at-t.ensures w.if-t-ne0.false))
-    ] in
-    let v = c.loop-j.invariant.0 in
-    (look-on v c.loop-j-test.true refl good (omega (arith, v.here)), found)
+    let b : Bool = g.L.Layout.wide in
+    let f : Family = family_for b in
+    let at : ℕ = a.from + c.SLOT.result * l.j in
+    let e : c.SLOT.result ≡ f.slot = c.SLOT.ensures ∙ g.met.L.Layout.slot_is in
+    let here : at ≡ slot_from f.slot a.from l.j = ap (λ (z : ℕ). a.from + z * l.j) e in
+    let live = ap (live_at f a.m.now a.w) (sym here) in
+    elim c.if-live.branch [
+      | then-live+else-slot_at_fault w ↦ (
+        look-on l.invariant.0 here h w.slot_at_fault.ensures w.if-slot_at_fault.false,
+        rw (w.bits-is, w.from.ensures)
+            (looks_on l.invariant.1 h w.meets_window-hit.result
+            (live ∙ wanted f a.m.now a.w at (sym c.is_live-live.ensures ∙ w.if-live.true) w.at.ensures w.meets_window-hit.ensures)),
+      )
+      | else-live w ↦
+          let dead = sym c.is_live-live.ensures ∙ w.if-live.false in (
+            look-on l.invariant.0 here h refl (unjudged b a.m.now a.used a.index.now at dead),
+            rw w.bits-is (looks-past l.invariant.1 h (live ∙ unwanted f a.m.now a.w at dead)),
+          )
+    ]
 
 pub returns : goal.returns
-returns c =
+returns g c =
     let v = c.loop-j.invariant in
-    (look_none v.0 c.loop-j-test.false, λ e. looks-done v.1 c.loop-j-test.false v.0.upto)
+    rw (← look-good v.0 c.loop-j-test.false BadSlot) (ap Ok (looks-done v.1 c.loop-j-test.false v.0.upto))

@@ -1,0 +1,6 @@
+-- `look::look_in_layout` meets its contract, by the laws of the look along the blocks. Assumes nothing.
+use Rattle.look.proofs.Looks.{Marking}
+use Rattle.look.proofs.look_in_layout.Given as goal
+
+abbrev pub invariant-loop-k : goal.invariant-loop-k
+invariant-loop-k g l = Marking g.L.Layout.wide l.m l.w l.used l.n l.words l.at l.count l.k
