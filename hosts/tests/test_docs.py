@@ -25,7 +25,7 @@ PROMISES = (ROOT / "docs" / "PROMISES.md").read_text()
 DECISIONS = (ROOT / "docs" / "DECISIONS.md").read_text()
 
 NAME = re.compile(r"`([a-z_]+::[a-z_]+)`")
-COUNTS = {"Two": 2, "Three": 3, "Four": 4, "Five": 5, "Six": 6, "Seven": 7, "Nine": 9}
+COUNTS = {"Two": 2, "Three": 3, "Four": 4, "Five": 5, "Six": 6, "Seven": 7, "Eight": 8, "Nine": 9}
 
 
 def example_in(text: str) -> str:

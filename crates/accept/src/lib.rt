@@ -4,6 +4,7 @@
 mod entries;
 mod fields;
 mod live;
+mod open;
 
 ghost use Rattle.std.specs.Prelude.{◌≡◌, Ok, ℕ, ◌+◌, ◌*◌, ◌≤◌, ◌<◌, length};
 ghost use Rattle.records.specs.Sizes.{header_size, index_block_size, index_page, map_limit};
@@ -22,6 +23,7 @@ use fields::judge_header;
 use judge::{Layout, Narrow, Wide, index_kind};
 use live::judge_slots;
 use numbers::{u16_at, u32_at};
+pub use open::OpenMap;
 use records::{Header, is_wide};
 use refusals::Refusal;
 use slots::IndexBlock;
@@ -59,7 +61,7 @@ fn open_symbols<L: Layout>(
         × ((k : ℕ) → result ≡ Ok k → OpenOf (family_for L.wide) m.now used k index.new) }
 {
     fill(index, (used - 1) / L::PAGE + 2, L::BLOCK as u32);
-    judge_symbols::<L>(m, used, index, n)?;
+    judge_symbols(&OpenMap::<L>::new(m, used, index, n))?;
     Ok(n)
 }
 
@@ -79,9 +81,7 @@ fn open_index(m: &[u8], used: usize, index: &mut [u32]) -> Result<usize, Refusal
                 open_symbols::<Narrow>(m, used, index, n)
             }
         }
-        Err(f) => Err(Refusal::BadIndex {
-            place: f.place as u32,
-        }),
+        Err(f) => Err(Refusal::BadIndex { place: f.place }),
     }
 }
 
@@ -100,10 +100,10 @@ fn examine_slots(m: &[u8], used: usize, index: &[u32], n: usize) -> Result<Exami
     ensures { result ≡ with_free m.now (unless (slots_judged m.now used n) (Ok n)) }
 {
     if is_wide(u16_at(m, Header::VERSION)) {
-        judge_slots::<Wide>(m, used, index, n)?;
+        judge_slots(&OpenMap::<Wide>::new(m, used, index, n))?;
         Ok(ExaminedMap::Wide { blocks: n })
     } else {
-        let free = judge_slots::<Narrow>(m, used, index, n)?;
+        let free = judge_slots(&OpenMap::<Narrow>::new(m, used, index, n))?;
         Ok(ExaminedMap::Accepted { blocks: n, free })
     }
 }

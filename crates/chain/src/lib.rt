@@ -7,13 +7,16 @@ ghost use Rattle.chain.specs.Tables.{Empty, Placed, Table, Carried, Filled, entr
 ghost use Rattle.records.specs.Sizes.{link_size, map_limit};
 ghost use Rattle.numbers.specs.Ranges.{share};
 
+mod indexed;
+
+pub use indexed::{BlockSizes, IndexedMap};
 use numbers::u32_at;
 use records::{Header, Part};
 
 // Why a walk stops before the chain ends: the place of the first link at fault, and the number of blocks before it.
 #[derive(Clone, Copy, Debug, PartialEq, Eq)]
 pub struct LinkFault {
-    pub place: usize,
+    pub place: u32,
     pub taken: usize,
 }
 
@@ -137,7 +140,7 @@ pub fn walk_chain(
         }
         if !can_be_block(kind, other, t, used, p) {
             return Err(LinkFault {
-                place: at,
+                place: at as u32,
                 taken: n,
             });
         }

@@ -8,7 +8,6 @@ ghost use Rattle.records.specs.Sizes.{header_size, index_block_size, index_page,
 ghost use Rattle.records.specs.Kinds.{code_of};
 ghost use Rattle.chain.specs.Chains.{place};
 ghost use Rattle.chain.specs.Tables.{Empty, ends_meet};
-ghost use Rattle.chain.specs.Indexed.{Indexed};
 ghost use Rattle.judge.specs.Rules.{slot_at};
 ghost use Rattle.accept.specs.Verdicts.{Editable};
 ghost use Rattle.journal.specs.Journals.{in_use};
@@ -19,9 +18,10 @@ ghost use Rattle.change.specs.NewSyms.{sym_to_reinstate, new_sym_for};
 ghost use Rattle.slots.specs.Slots.{sym_at};
 
 use accept::examine;
+use chain::IndexedMap;
 use edit::{EditAnswer, EditStart, begin};
 use journal::{append, is_full, place_of};
-use judge::slot_good;
+use judge::{Narrow, slot_good};
 use numbers::{put_u16_at, u16_at};
 use records::{EditKind, Header, JournalRecord};
 use refusals::Refusal;
@@ -29,17 +29,17 @@ use slots::{IndexBlock, Slot, State, read_slot};
 
 // The Sym that reinstates an erased slot, or none where it may not be reinstated.
 #[tactic(auto, using(std::proofs::lemmas::Bool::Decides::nat_tests), unfolding(crate::specs::NewSyms::sym_to_reinstate))]
-fn sym_to_reinstate(m: &[u8], used: usize, index: &[u32], t: Slot) -> Option<u16>
-    requires { (header_size ≤ used) × Indexed index_block_size index_page m.now used index.now × (t.len ≡ 0 → ⊥) }
-    ensures { result ≡ sym_to_reinstate (ends_meet index_block_size index.now) m.now used t }
+fn sym_to_reinstate(map: &IndexedMap<Narrow>, t: Slot) -> Option<u16>
+    requires { (header_size ≤ map.now.used) × (t.len ≡ 0 → ⊥) }
+    ensures { result ≡ sym_to_reinstate (ends_meet index_block_size map.now.index.now) map.now.m.now map.now.used t }
 {
     let at = t.position as usize;
-    if used < at + 2 {
+    if map.used < at + 2 {
         return None;
     }
-    let sym = u16_at(m, at);
+    let sym = u16_at(map.m, at);
     let revived = Slot { sym, ..t };
-    if sym != 0 && slot_good(m, used, u16_at(m, Header::VERSION), index, revived) {
+    if sym != 0 && slot_good(map, u16_at(map.m, Header::VERSION), revived) {
         Some(sym)
     } else {
         None
@@ -71,7 +71,7 @@ fn sym_for(
     if found.state != State::Erased {
         return None;
     }
-    sym_to_reinstate(m, used, index, found.slot)
+    sym_to_reinstate(&IndexedMap::new(m, used, index), found.slot)
 }
 
 // A removal or reinstatement whose number is held.

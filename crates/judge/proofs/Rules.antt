@@ -1,29 +1,27 @@
 -- The laws of the two layouts and the two kinds of chain: how large a block can be; as the code hands a kind to the walk, it is the rule of specs/; what the walk
--- needs of it; where a link can stand; and how many index blocks there are at most. Assumes nothing.
-use Prim.Native.Nat.{ℕ, zero, suc, ◌+◌, ◌-◌, ◌*◌, ◌/◌, ◌≤◌, ◌<◌}
+-- needs of it; and how many index blocks there are at most. Assumes nothing.
+use Prim.Native.Nat.{ℕ, ◌+◌, ◌-◌, ◌*◌, ◌/◌, ◌≤◌, ◌<◌}
 use mathlib.Core.Bool.{Bool, true, false}
 use mathlib.Core.Path.{◌≡◌, refl, sym, ap, ◌∙◌, subst}
 use mathlib.Core.List.{List}
 use native.Mathlib.Omega.{arith}
 use lib.ListN.{length}
 use Rattle.numbers.specs.Bytes.{Bytes}
-use Rattle.numbers.proofs.Bytes.{le_at-lt}
 use Rattle.records.specs.declared.Header.{Header}
 use Rattle.records.specs.Sizes.{header_size, map_limit, index_block_size, wide_block_size, wide_slot_size, index_page, most_blocks, symbol_block_size, symbol_page}
-use Rattle.records.specs.Headers.{header_of, index_head, symbol_head, is_wide}
+use Rattle.records.specs.Headers.{header_of, symbol_head, is_wide}
 use Rattle.chain.specs.declared.Kind.{Kind}
-use Rattle.std.specs.Prelude.{Result, Err}
+use Rattle.std.specs.Prelude.{Result}
 use Rattle.chain.specs.declared.LinkFault.{LinkFault}
-use Rattle.chain.specs.Chains.{Rule, place, walked, taken}
-use Rattle.chain.specs.Tables.{Empty, Placed, Table, EndsTable, kind_rule, Ready}
-use Rattle.chain.proofs.Chains.{Pass, few, fault-tells}
+use Rattle.chain.specs.Chains.{Rule, walked, taken}
+use Rattle.chain.specs.Tables.{Empty, Placed, Table, ends_meet, kind_rule, Ready}
+use Rattle.chain.proofs.Chains.{Pass, few}
 use Rattle.chain.proofs.Tables.{rule-ranges, rule-other, rule-none}
 use Rattle.chain.proofs.Filled.{empty-filled}
 use Rattle.chain.specs.Indexed.{Indexed}
 use Rattle.judge.specs.Judging.{version_of}
-use Rattle.judge.specs.Rules.{Family, family_for, family_of, index_rule_of, symbol_rule_of}
+use Rattle.judge.specs.Rules.{Family, family_for, family_of, index_rule_of, symbol_rule_of, touches_of}
 use Rattle.judge.specs.Kinds.{index_kind, symbol_kind}
-use Rattle.judge.proofs.Judging.{same-touch}
 
 -- ---- the two layouts
 
@@ -101,11 +99,11 @@ module _ (m : List ℕ) {h : Header} {k : Kind} (e : h ≡ header_of m) (f : k �
 -- ---- symbol blocks
 
 module _ (f : Family) {k : Kind} (e : k ≡ symbol_kind f) where
-  pub symbol-rule : {m : List ℕ} {n : ℕ} {index : List ℕ} → EndsTable f.block index_head f.page m n index → kind_rule k index ≡ symbol_rule_of f m n
-  symbol-rule {index} w =
+  pub symbol-rule : (m : List ℕ) (n : ℕ) (index : List ℕ) → ends_meet f.block index ≡ touches_of f m n → kind_rule k index ≡ symbol_rule_of f m n
+  symbol-rule m n index w =
       rw e
       (rule-other (symbol_kind f) index refl refl
-      ∙ ap (λ (touch : ℕ → ℕ → Bool). record { head = symbol_head; size = symbol_block_size; taboo = λ p. touch p symbol_block_size }) (same-touch f w))
+      ∙ ap (λ (touch : ℕ → ℕ → Bool). record { head = symbol_head; size = symbol_block_size; taboo = λ p. touch p symbol_block_size }) w)
 
   pub symbol-ready : Sized f → {m : List ℕ} {used : ℕ} {index t : List ℕ} → header_size ≤ used → Indexed f.block f.page m used index → used + symbol_page ≤ length t * symbol_page → Ready k used index t
   symbol-ready s least indexed wide =
@@ -133,13 +131,3 @@ module _ (f : Family) {k : Kind} (e : k ≡ symbol_kind f) where
 pub walk-by : {r s : Rule} {m : List ℕ} (used : ℕ) {w : Result ℕ LinkFault} {a b : ℕ} {t : List ℕ} → r ≡ s → a ≡ b → (w ≡ walked r m used) × Placed a t × Table r.head a m (taken r m used) t → (walked s m used ≡ w) × Placed b t × Table s.head b m (taken s m used) t
 walk-by {m} used {w} {a} {t} e f h =
     rw f at (subst (λ (q : Rule). (walked q m used ≡ w) × Placed a t × Table q.head a m (taken q m used) t) e (sym h.0, h.1, h.2))
-
--- ---- a link at fault stands at the head, or where another link says
-
-place-fits : (h : ℕ) (m : List ℕ) (k : ℕ) → Bytes m → h < 4294967296 → place h m k < 4294967296
-unfolding place
-place-fits h m zero b l = l
-place-fits h m (suc k) b l = le_at-lt 4 m (place h m k) b
-
-pub fault-fits : (r : Rule) (m : List ℕ) (used : ℕ) {p k : ℕ} → Bytes m → r.head < 4294967296 → walked r m used ≡ Err (record { place = p; taken = k }) → p < 4294967296
-fault-fits r m used {p} {k} b l e = rw (fault-tells r m used e).1 at (place-fits r.head m k b l)

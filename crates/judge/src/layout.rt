@@ -1,31 +1,23 @@
 // The two layouts of a map, as one trait: what each has of its own. What is written over `L: Layout` is compiled for each, with its sizes as constants.
 ghost use Rattle.std.specs.Prelude.{◌≡◌, ℕ, ◌+◌, ◌*◌, ◌≤◌, ◌<◌, List, Bool, true, false, refl, length};
+ghost use Rattle.std.proofs.Common.{lit≤};
 ghost use Rattle.numbers.specs.Bytes.{u32_at};
-ghost use Rattle.records.specs.Sizes.{index_block_size, index_page, slot_size, wide_block_size, wide_page, wide_slot_size, block_cells};
+ghost use Rattle.records.specs.Sizes.{index_block_size, index_page, slot_size, wide_slot_size, block_cells};
 ghost use Rattle.chain.specs.Cells.{cell_in};
 ghost use Rattle.chain.specs.Tables.{ends_meet};
-ghost use Rattle.chain.specs.Indexed.{Indexed};
 ghost use Rattle.judge.specs.Judging.{version_of, no_len};
 ghost use Rattle.judge.specs.Rules.{family_for};
 ghost use Rattle.judge.specs.Kinds.{symbol_kind};
 
 use super::{bad_slot, symbol_good};
-use chain::Kind;
+use chain::{BlockSizes, IndexedMap, Kind};
 use records::{Header, LINK, Part, SymbolBlock};
 use slots::{IndexBlock, Slot};
-use wide::{WideBlock, WideSlot, wide_bad_slot, wide_symbol_good};
+use wide::{Wide, WideSlot, wide_bad_slot, wide_symbol_good};
 
-pub trait Layout {
-    // The bytes of an index block, of a page of the table of index blocks, and of a slot.
-    const BLOCK: usize;
-
-    const PAGE: usize;
-
+pub trait Layout: BlockSizes {
+    // The bytes of a slot.
     const SLOT: usize;
-
-    ghost BLOCK: { ℕ };
-
-    ghost PAGE: { ℕ };
 
     ghost SLOT: { ℕ };
 
@@ -45,20 +37,24 @@ pub trait Layout {
         ensures { result ≡ (family_for wide).live m.now at };
 
     // Whether the slot at a place is live and not good.
-    fn slot_at_fault(m: &[u8], used: usize, version: u16, index: &[u32], at: usize) -> bool
-        requires { (at + (family_for wide).slot ≤ used) × (version ≡ version_of m.now)
-            × Indexed (family_for wide).block (family_for wide).page m.now used index.now }
-        ensures { result ≡ (family_for wide).slot_at_fault (ends_meet (family_for wide).block index.now) m.now used at };
+    fn slot_at_fault(map: &IndexedMap<Self>, version: u16, at: usize) -> bool
+    where
+        Self: Sized,
+        requires { (at + (family_for wide).slot ≤ map.now.used) × (version ≡ version_of map.now.m.now) }
+        ensures { result
+            ≡ (family_for wide).slot_at_fault (ends_meet (family_for wide).block map.now.index.now) map.now.m.now map.now.used at };
 
     // Whether a symbol entry that says p is used and its record is not good.
-    fn entry_at_fault(m: &[u8], used: usize, index: &[u32], p: usize) -> bool
-        requires { (p < 4294967296) × Indexed (family_for wide).block (family_for wide).page m.now used index.now }
-        ensures { (at : ℕ) → p ≡ u32_at m.now at
-            → result ≡ (family_for wide).entry_at_fault (ends_meet (family_for wide).block index.now) m.now used at };
+    fn entry_at_fault(map: &IndexedMap<Self>, p: usize) -> bool
+    where
+        Self: Sized,
+        requires { p < 4294967296 }
+        ensures { (at : ℕ) → p ≡ u32_at map.now.m.now at
+            → result ≡ (family_for wide).entry_at_fault (ends_meet (family_for wide).block map.now.index.now) map.now.m.now map.now.used at };
 
-    ghost block_is: { BLOCK ≡ (family_for wide).block };
+    ghost block_is: { Self.BLOCK ≡ (family_for wide).block };
 
-    ghost page_is: { PAGE ≡ (family_for wide).page };
+    ghost page_is: { Self.PAGE ≡ (family_for wide).page };
 
     ghost slot_is: { SLOT ≡ (family_for wide).slot };
 
@@ -90,16 +86,24 @@ pub trait Layout {
 // OCAD 6, 7 and 8.
 pub struct Narrow;
 
-impl Layout for Narrow {
+impl BlockSizes for Narrow {
     const BLOCK: usize = IndexBlock::SIZE;
 
     const PAGE: usize = IndexBlock::PAGE;
 
-    const SLOT: usize = Slot::SIZE;
-
     ghost BLOCK = { index_block_size };
 
     ghost PAGE = { index_page };
+
+    ghost block_some = { lit≤ tt };
+
+    ghost block_most = { lit≤ tt };
+
+    ghost page_some = { lit≤ tt };
+}
+
+impl Layout for Narrow {
+    const SLOT: usize = Slot::SIZE;
 
     ghost SLOT = { slot_size };
 
@@ -119,14 +123,14 @@ impl Layout for Narrow {
     }
 
     #[tactic(auto, using(crate::proofs::States::fault_none))]
-    fn slot_at_fault(m: &[u8], used: usize, version: u16, index: &[u32], at: usize) -> bool {
-        let t = Slot::at(m, at);
-        t.len != 0 && bad_slot(m, used, version, index, t)
+    fn slot_at_fault(map: &IndexedMap<Narrow>, version: u16, at: usize) -> bool {
+        let t = Slot::at(map.m, at);
+        t.len != 0 && bad_slot(map, version, t)
     }
 
     #[tactic(auto, unfolding(crate::specs::Judging::bad_entry))]
-    fn entry_at_fault(m: &[u8], used: usize, index: &[u32], p: usize) -> bool {
-        p != 0 && !symbol_good(m, used, index, p)
+    fn entry_at_fault(map: &IndexedMap<Narrow>, p: usize) -> bool {
+        p != 0 && !symbol_good(map, p)
     }
 
     ghost block_is = { refl };
@@ -136,19 +140,8 @@ impl Layout for Narrow {
     ghost slot_is = { refl };
 }
 
-// OCAD 9, 10 and 11.
-pub struct Wide;
-
 impl Layout for Wide {
-    const BLOCK: usize = WideBlock::SIZE;
-
-    const PAGE: usize = WideBlock::PAGE;
-
     const SLOT: usize = WideSlot::SIZE;
-
-    ghost BLOCK = { wide_block_size };
-
-    ghost PAGE = { wide_page };
 
     ghost SLOT = { wide_slot_size };
 
@@ -165,13 +158,13 @@ impl Layout for Wide {
         WideSlot::at(m, at).is_live()
     }
 
-    fn slot_at_fault(m: &[u8], used: usize, _version: u16, index: &[u32], at: usize) -> bool {
-        wide_bad_slot(m, used, index, WideSlot::at(m, at))
+    fn slot_at_fault(map: &IndexedMap<Wide>, _version: u16, at: usize) -> bool {
+        wide_bad_slot(map, WideSlot::at(map.m, at))
     }
 
     #[tactic(auto, unfolding(wide::specs::Symbols::wide_bad_entry))]
-    fn entry_at_fault(m: &[u8], used: usize, index: &[u32], p: usize) -> bool {
-        p != 0 && !wide_symbol_good(m, used, index, p)
+    fn entry_at_fault(map: &IndexedMap<Wide>, p: usize) -> bool {
+        p != 0 && !wide_symbol_good(map, p)
     }
 
     ghost block_is = { refl };

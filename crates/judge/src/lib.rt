@@ -5,22 +5,22 @@
 ghost use Rattle.std.specs.Prelude.{◌≡◌, true, cond, ◌&&◌, ℕ, ◌+◌, ◌*◌, ◌≤◌, ◌<◌};
 ghost use Rattle.numbers.specs.Bytes.{u32_at};
 ghost use Rattle.numbers.specs.Below.{first};
-ghost use Rattle.records.specs.Sizes.{index_block_size, index_page, map_limit, block_cells};
+ghost use Rattle.records.specs.Sizes.{index_block_size, map_limit, block_cells};
 ghost use Rattle.slots.specs.Slots.{slot_of, len_good, bytes_in, bytes_in_range};
 ghost use Rattle.chain.specs.Cells.{cell_in};
 ghost use Rattle.chain.specs.Tables.{ends_meet};
-ghost use Rattle.chain.specs.Indexed.{Indexed};
 ghost use Rattle.judge.specs.Rules.{family_for, family_in};
 ghost use Rattle.judge.specs.Kinds.{kept_off, index_kind, symbol_kind};
 ghost use Rattle.judge.specs.Judging.{part_good, header_fits, object_good, slot_good, bad_slot, symbol_good, bad_entry};
 
 mod layout;
 
-use chain::{Kind, meets_block};
-pub use layout::{Layout, Narrow, Wide};
+use chain::{BlockSizes, IndexedMap, Kind};
+pub use layout::{Layout, Narrow};
 use numbers::{at_most, u16_at};
 use records::{Header, Part, is_wide, size_good};
 use slots::{IndexBlock, ObjectHeader, Slot, bytes_in, bytes_in_range, type_good};
+pub use wide::Wide;
 
 // Setup or info: absent, or behind the header and inside the map.
 #[tactic(auto, unfolding(crate::specs::Judging::part_good, numbers::specs::Ranges::within))]
@@ -44,97 +44,50 @@ fn header_fits(h: ObjectHeader, t: Slot, bytes: usize) -> bool
 
 // Whether a slot's Len is allowed and its object is good. The part of the map that starts at its position is handed on.
 #[tactic(auto, using(crate::proofs::Judging::range_laws), unfolding(crate::specs::Judging::object_good, numbers::specs::Ranges::within))]
-fn object_good(m: &[u8], used: usize, version: u16, index: &[u32], t: Slot) -> bool
-    requires { Indexed index_block_size index_page m.now used index.now × (t.len ≡ 0 → ⊥) }
-    ensures { result ≡ (len_good version t.len && object_good (ends_meet index_block_size index.now) m.now used version t) }
+fn object_good(map: &IndexedMap<Narrow>, version: u16, t: Slot) -> bool
+    requires { t.len ≡ 0 → ⊥ }
+    ensures { result
+        ≡ (len_good version t.len && object_good (ends_meet index_block_size map.now.index.now) map.now.m.now map.now.used version t) }
 {
     let at = t.position as usize;
     let bytes = bytes_in(version, t.len);
     Header::SIZE <= at
         && bytes_in_range(bytes)
-        && at + bytes <= used
-        && !meets_block(index, IndexBlock::PAGE, IndexBlock::SIZE, at, bytes)
-        && header_fits(ObjectHeader::of(&m[at..]), t, bytes)
+        && at + bytes <= map.used
+        && !map.meets(at, bytes)
+        && header_fits(ObjectHeader::of(&map.m[at..]), t, bytes)
 }
 
 // Whether a slot that is not free would be good as a live one. The two comparisons stand apart for the sake of time (DECISIONS, C9).
 #[tactic(auto, unfolding(crate::specs::Judging::slot_good))]
-pub fn slot_good(m: &[u8], used: usize, version: u16, index: &[u32], t: Slot) -> bool
-    requires { Indexed index_block_size index_page m.now used index.now × (t.len ≡ 0 → ⊥) }
-    ensures { result ≡ slot_good (ends_meet index_block_size index.now) m.now used version t }
+pub fn slot_good(map: &IndexedMap<Narrow>, version: u16, t: Slot) -> bool
+    requires { t.len ≡ 0 → ⊥ }
+    ensures { result ≡ slot_good (ends_meet index_block_size map.now.index.now) map.now.m.now map.now.used version t }
 {
-    at_most(t.left, t.right) && object_good(m, used, version, index, t) && at_most(t.bottom, t.top)
+    at_most(t.left, t.right) && object_good(map, version, t) && at_most(t.bottom, t.top)
 }
 
 // Whether a slot that is not free is live and not good.
 #[tactic(auto, using(crate::proofs::States::fault_erased, crate::proofs::States::fault_live))]
-pub fn bad_slot(m: &[u8], used: usize, version: u16, index: &[u32], t: Slot) -> bool
-    requires { Indexed index_block_size index_page m.now used index.now × (t.len ≡ 0 → ⊥) }
-    ensures { (at : ℕ) → t ≡ slot_of m.now at
-        → result ≡ bad_slot (ends_meet index_block_size index.now) m.now used version at }
+pub fn bad_slot(map: &IndexedMap<Narrow>, version: u16, t: Slot) -> bool
+    requires { t.len ≡ 0 → ⊥ }
+    ensures { (at : ℕ) → t ≡ slot_of map.now.m.now at
+        → result ≡ bad_slot (ends_meet index_block_size map.now.index.now) map.now.m.now map.now.used version at }
 {
-    t.sym != 0 && !slot_good(m, used, version, index, t)
+    t.sym != 0 && !slot_good(map, version, t)
 }
 
 // Whether a symbol record is good.
 #[tactic(auto, using(crate::proofs::Judging::size_two), unfolding(crate::specs::Judging::symbol_good, numbers::specs::Ranges::within))]
-fn symbol_good(m: &[u8], used: usize, index: &[u32], at: usize) -> bool
-    requires { (at < 4294967296) × Indexed index_block_size index_page m.now used index.now }
-    ensures { result ≡ symbol_good (ends_meet index_block_size index.now) m.now used at }
+fn symbol_good(map: &IndexedMap<Narrow>, at: usize) -> bool
+    requires { at < 4294967296 }
+    ensures { result ≡ symbol_good (ends_meet index_block_size map.now.index.now) map.now.m.now map.now.used at }
 {
-    if at < Header::SIZE || used < at + 2 {
+    if at < Header::SIZE || map.used < at + 2 {
         return false;
     }
-    let size = u16_at(m, at);
-    size_good(size)
-        && at + size as usize <= used
-        && !meets_block(index, IndexBlock::PAGE, IndexBlock::SIZE, at, size as usize)
-}
-
-// Whether a symbol entry that says p, in a map of either layout, is used and its record is not good.
-pub fn entry_at_fault(m: &[u8], used: usize, wide: bool, index: &[u32], p: usize) -> bool
-    requires { (p < 4294967296) × Indexed (family_for wide).block (family_for wide).page m.now used index.now }
-    ensures { (at : ℕ) → p ≡ u32_at m.now at
-        → result ≡ (family_for wide).entry_at_fault (ends_meet (family_for wide).block index.now) m.now used at }
-{
-    if wide {
-        Wide::entry_at_fault(m, used, index, p)
-    } else {
-        Narrow::entry_at_fault(m, used, index, p)
-    }
-}
-
-// The bytes of an index block.
-pub fn block_size(version: u16) -> usize
-    ensures { result ≡ (family_in version).block }
-{
-    if is_wide(version) {
-        Wide::BLOCK
-    } else {
-        Narrow::BLOCK
-    }
-}
-
-// The bytes of a page of the table of index blocks.
-pub fn page_size(version: u16) -> usize
-    ensures { result ≡ (family_in version).page }
-{
-    if is_wide(version) {
-        Wide::PAGE
-    } else {
-        Narrow::PAGE
-    }
-}
-
-// The bytes of a slot.
-pub fn slot_size(version: u16) -> usize
-    ensures { result ≡ (family_in version).slot }
-{
-    if is_wide(version) {
-        Wide::SLOT
-    } else {
-        Narrow::SLOT
-    }
+    let size = u16_at(map.m, at);
+    size_good(size) && at + size as usize <= map.used && !map.meets(at, size as usize)
 }
 
 // Where slot j of the block that starts at `block` stands.
@@ -146,17 +99,6 @@ pub fn slot_place(version: u16, block: usize, j: usize) -> usize
         Wide::slot_place(block, j)
     } else {
         Narrow::slot_place(block, j)
-    }
-}
-
-// The chain of symbol blocks of either layout, as a kind: its blocks keep off the index blocks.
-pub fn symbol_kind(wide: bool) -> Kind
-    ensures { result ≡ symbol_kind (family_for wide) }
-{
-    if wide {
-        Wide::symbol_kind()
-    } else {
-        Narrow::symbol_kind()
     }
 }
 
@@ -172,10 +114,15 @@ pub fn index_kind(h: Header) -> Kind
     ensures { result ≡ index_kind h }
 {
     let wide = is_wide(h.version);
+    let (size, page) = if wide {
+        (Wide::BLOCK, Wide::PAGE)
+    } else {
+        (Narrow::BLOCK, Narrow::PAGE)
+    };
     Kind {
         head: Header::INDEX,
-        size: block_size(h.version),
-        page: page_size(h.version),
+        size,
+        page,
         first: kept_off(wide, h.setup),
         second: kept_off(wide, h.info),
         other_size: IndexBlock::SIZE,

@@ -3,13 +3,13 @@
 #![tactic(auto)]
 
 ghost use Rattle.std.specs.Prelude.{◌≡◌, ℕ, ◌+◌, ◌*◌, ◌≤◌, ◌<◌, length, MatchOption};
+ghost use Rattle.std.proofs.Common.{lit≤};
 ghost use Rattle.records.specs.Sizes.{wide_block_size, wide_page, wide_slot_size, wide_header_size};
 ghost use Rattle.chain.specs.Tables.{ends_meet};
-ghost use Rattle.chain.specs.Indexed.{Indexed};
 ghost use Rattle.wide.specs.Slots.{wide_slot_of, wide_live, wide_object_of, wide_type_good, wide_bytes, wide_object_good, wide_slot_good, wide_bad_slot};
 ghost use Rattle.wide.specs.Symbols.{wide_symbol_good};
 
-use chain::meets_block;
+use chain::{BlockSizes, IndexedMap};
 use numbers::{at_most, u16_at, u32_at};
 use records::Header;
 
@@ -20,6 +20,25 @@ impl WideBlock {
     pub const SIZE: usize = 10244;
     // A table of them goes by pages of so many bytes.
     pub const PAGE: usize = 8192;
+}
+
+// OCAD 9, 10 and 11.
+pub struct Wide;
+
+impl BlockSizes for Wide {
+    const BLOCK: usize = WideBlock::SIZE;
+
+    const PAGE: usize = WideBlock::PAGE;
+
+    ghost BLOCK = { wide_block_size };
+
+    ghost PAGE = { wide_page };
+
+    ghost block_some = { lit≤ tt };
+
+    ghost block_most = { lit≤ tt };
+
+    ghost page_some = { lit≤ tt };
 }
 
 // A slot of 9 to 11. Coordinates are raw; Sym is kept as its 32 bits. It is a type of its own: its fields are not those of 6 to 8, and stand elsewhere.
@@ -122,41 +141,40 @@ fn wide_bytes(len: u32, items: u32, texts: u16) -> Option<usize>
 
 // Whether a slot's object is good. An object has 40 bytes at least in both meanings of Len, so its header is read after that test.
 #[tactic(auto, using(crate::proofs::Slots::object_laws), unfolding(crate::specs::Slots::wide_fits, crate::specs::Slots::wide_header_fits, numbers::specs::Ranges::within))]
-fn wide_object_good(m: &[u8], used: usize, index: &[u32], t: WideSlot) -> bool
-    requires { Indexed wide_block_size wide_page m.now used index.now × (t.len ≡ 0 → ⊥) }
-    ensures { result ≡ wide_object_good (ends_meet wide_block_size index.now) m.now used t }
+fn wide_object_good(map: &IndexedMap<Wide>, t: WideSlot) -> bool
+    requires { t.len ≡ 0 → ⊥ }
+    ensures { result ≡ wide_object_good (ends_meet wide_block_size map.now.index.now) map.now.m.now map.now.used t }
 {
     let at = t.position as usize;
-    if at < Header::SIZE || used < at + WideObject::SIZE {
+    if at < Header::SIZE || map.used < at + WideObject::SIZE {
         return false;
     }
-    let h = WideObject::of(&m[at..]);
+    let h = WideObject::of(&map.m[at..]);
     if h.sym != t.sym || !wide_type_good(h.kind) {
         return false;
     }
     let Some(bytes) = wide_bytes(t.len, h.items, h.texts) else {
         return false;
     };
-    at + bytes <= used && !meets_block(index, WideBlock::PAGE, WideBlock::SIZE, at, bytes)
+    at + bytes <= map.used && !map.meets(at, bytes)
 }
 
 // Whether a slot that has a Len would be good as a live one.
 #[tactic(auto, unfolding(crate::specs::Slots::wide_slot_good))]
-fn wide_slot_good(m: &[u8], used: usize, index: &[u32], t: WideSlot) -> bool
-    requires { Indexed wide_block_size wide_page m.now used index.now × (t.len ≡ 0 → ⊥) }
-    ensures { result ≡ wide_slot_good (ends_meet wide_block_size index.now) m.now used t }
+fn wide_slot_good(map: &IndexedMap<Wide>, t: WideSlot) -> bool
+    requires { t.len ≡ 0 → ⊥ }
+    ensures { result ≡ wide_slot_good (ends_meet wide_block_size map.now.index.now) map.now.m.now map.now.used t }
 {
-    at_most(t.left, t.right) && wide_object_good(m, used, index, t) && at_most(t.bottom, t.top)
+    at_most(t.left, t.right) && wide_object_good(map, t) && at_most(t.bottom, t.top)
 }
 
 // Whether a slot is live and not good.
 #[tactic(auto, using(crate::proofs::Slots::fault_laws))]
-pub fn wide_bad_slot(m: &[u8], used: usize, index: &[u32], t: WideSlot) -> bool
-    requires { Indexed wide_block_size wide_page m.now used index.now }
-    ensures { (at : ℕ) → t ≡ wide_slot_of m.now at
-        → result ≡ wide_bad_slot (ends_meet wide_block_size index.now) m.now used at }
+pub fn wide_bad_slot(map: &IndexedMap<Wide>, t: WideSlot) -> bool
+    ensures { (at : ℕ) → t ≡ wide_slot_of map.now.m.now at
+        → result ≡ wide_bad_slot (ends_meet wide_block_size map.now.index.now) map.now.m.now map.now.used at }
 {
-    t.is_live() && !wide_slot_good(m, used, index, t)
+    t.is_live() && !wide_slot_good(map, t)
 }
 
 // A symbol record of 9 to 11, by its Size.
@@ -172,15 +190,13 @@ impl WideRecord {
 
 // Whether a symbol record is good. A Size that is negative is past every map's end.
 #[tactic(auto, using(crate::proofs::Symbols::size_laws), unfolding(crate::specs::Symbols::wide_symbol_good, numbers::specs::Ranges::within))]
-pub fn wide_symbol_good(m: &[u8], used: usize, index: &[u32], at: usize) -> bool
-    requires { (at < 4294967296) × Indexed wide_block_size wide_page m.now used index.now }
-    ensures { result ≡ wide_symbol_good (ends_meet wide_block_size index.now) m.now used at }
+pub fn wide_symbol_good(map: &IndexedMap<Wide>, at: usize) -> bool
+    requires { at < 4294967296 }
+    ensures { result ≡ wide_symbol_good (ends_meet wide_block_size map.now.index.now) map.now.m.now map.now.used at }
 {
-    if at < Header::SIZE || used < at + 4 {
+    if at < Header::SIZE || map.used < at + 4 {
         return false;
     }
-    let size = u32_at(m, at) as usize;
-    WideRecord::SIZE <= size
-        && at + size <= used
-        && !meets_block(index, WideBlock::PAGE, WideBlock::SIZE, at, size)
+    let size = u32_at(map.m, at) as usize;
+    WideRecord::SIZE <= size && at + size <= map.used && !map.meets(at, size)
 }

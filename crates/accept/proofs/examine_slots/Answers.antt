@@ -5,6 +5,7 @@ use mathlib.Core.Path.{◌≡◌, sym, ap, ◌∙◌}
 use Prim.Native.Nat.{ℕ, ◌*◌}
 use Rattle.std.specs.Prelude.{Result, Ok}
 use Rattle.refusals.specs.declared.Refusal.{Refusal}
+use Rattle.refusals.specs.Refusals.{unless}
 use Rattle.refusals.proofs.Passing.{unless_tells}
 use Rattle.numbers.specs.Below.{first}
 use Rattle.records.specs.Headers.{is_wide}
@@ -24,7 +25,12 @@ pub returns-in_ok-free : goal.returns-in_ok-free
 returns-in_ok-free c =
     let m = c.args.m.now in
     let layout : is_wide (version_of m) ≡ false = ap is_wide (sym c.u16_at.ensures) ∙ sym c.is_wide.ensures ∙ c.if-is_wide.false in
-    let tells = unless_tells (slots_judged_of narrow m c.args.used c.args.n) (sym c.judge_slots-else-is_wide.ensures ∙ c.in_ok-free.was) in
+    let e = c.new-else-is_wide.ensures in
+    let told : c.judge_slots-else-is_wide.result ≡ unless (slots_judged_of narrow m c.args.used c.args.n) (Ok (first (λ s. no_len m (slot_at m s)) (256 * c.args.n))) =
+    c.judge_slots-else-is_wide.ensures
+    ∙ (λ i. unless (slots_judged_of narrow (e.0 i) (e.1 i) (e.3 i)) (Ok (first (λ s. no_len (e.0 i) (slot_at (e.0 i) s)) (256 * (e.3 i)))))
+    in
+    let tells = unless_tells (slots_judged_of narrow m c.args.used c.args.n) (sym told ∙ c.in_ok-free.was) in
     let free : c.in_ok-free.free ≡ free_slot m c.args.n =
     let e : ◌≡◌ {A = Result ℕ Refusal} (Ok (first (λ s. no_len m (slot_at m s)) (256 * c.args.n))) (Ok c.in_ok-free.free) = tells.1 in
     let is : first (λ s. no_len m (slot_at m s)) (256 * c.args.n) ≡ c.in_ok-free.free = cc in

@@ -17,7 +17,7 @@ use Rattle.judge.specs.Judging.{version_of}
 use Rattle.judge.specs.Rules.{family_for, family_of, index_rule_of}
 use Rattle.accept.specs.Opens.{OpenOf, Open, opened_after, Opens}
 use Rattle.accept.specs.Verdicts.{symbols_judged_of}
-use Rattle.judge.proofs.Rules.{index-page, index-rule, index-ready, walk-by, fault-fits}
+use Rattle.judge.proofs.Rules.{index-page, index-rule, index-ready, walk-by}
 use Rattle.accept.proofs.open_index.Goals as goal
 
 -- the map is open where the answer is no refusal
@@ -58,13 +58,6 @@ open_symbols-requires-else-is_wide c =
     let layout : is_wide (version_of m) ≡ false = ap (λ (h : Header). is_wide h.version) (sym c.of-h.ensures) ∙ sym c.is_wide.ensures ∙ c.if-is_wide.false in
     let whole : walked (index_rule_of (family_of m) m) m a.used ≡ Ok c.in-Ok.n = walk.0 ∙ c.in-Ok.is in
     (c.requires.0, c.requires.1, c.requires.2, omega (arith, c.requires.3, c.walk_chain.auto.t), rw layout at whole, rw layout at walk.1, rw layout at (table_of (index_rule_of (family_of m) m) m a.used whole walk.2))
-
-pub overflow_cast-result : goal.overflow_cast-result
-overflow_cast-result c =
-    let a = c.args in
-    let m = a.m.now in
-    let walk = walk-by a.used (index-rule m c.of-h.ensures c.index_kind.ensures (replicate 2 0) (zeros 2)) (index-page m c.of-h.ensures c.index_kind.ensures) c.walk_chain.ensures in
-    omega (arith, fault-fits (index_rule_of (family_of m) m) m a.used (λ i. (c.type_inv.m i).fits) (omega arith) (walk.0 ∙ c.in-Err.is))
 
 pub returns-in-Err : goal.returns-in-Err
 unfolding opened_after

@@ -15,6 +15,7 @@ use Rattle.chain.proofs.Filling.{fill-filled, fill-table, entry-most, entry-none
 use Rattle.judge.specs.Rules.{Family, family_for, index_rule_of}
 use Rattle.judge.proofs.Rules.{Sized, sized, pages-fit, pages-count, pages-below}
 use Rattle.accept.specs.Opens.{OpenOf}
+use Rattle.accept.specs.Verdicts.{symbols_judged_of}
 use Rattle.accept.proofs.open_symbols.Goals as goal
 
 -- a table of good index blocks that is filled opens the map
@@ -50,8 +51,8 @@ fill-requires g c =
       λ b. omega (arith, c.requires.1, size, s.most, entry-most pass (omega (arith, s.least)) c.requires.6 b),
     )
 
-pub judge_symbols-requires : goal.judge_symbols-requires
-judge_symbols-requires g c =
+pub new-requires : goal.new-requires
+new-requires g c =
     let page = c.PAGE.ensures ∙ g.met.L.Layout.page_is in
     let size = c.BLOCK.ensures ∙ g.met.L.Layout.block_is in
     opens-filled g.L.Layout.wide c.requires.0 c.requires.1 c.requires.2 (omega (arith, c.requires.3, c.fill.auto.t)) c.requires.4 c.requires.5 c.requires.6
@@ -59,10 +60,14 @@ judge_symbols-requires g c =
 
 pub returns : goal.returns
 returns g c =
+    let e = c.new.ensures in
+    let told : c.judge_symbols.result ≡ symbols_judged_of (family_for g.L.Layout.wide) c.args.m.now c.args.used c.args.n =
+    c.judge_symbols.ensures ∙ (λ i. symbols_judged_of (family_for g.L.Layout.wide) (e.0 i) (e.1 i) (e.3 i))
+    in
     let page = c.PAGE.ensures ∙ g.met.L.Layout.page_is in
     let size = c.BLOCK.ensures ∙ g.met.L.Layout.block_is in
     let opened : OpenOf (family_for g.L.Layout.wide) c.args.m.now c.args.used c.args.n c.fill.new.t = opens-filled g.L.Layout.wide c.requires.0 c.requires.1 c.requires.2 (omega (arith, c.requires.3, c.fill.auto.t)) c.requires.4 c.requires.5 c.requires.6
     (rw (← size, ← page) c.fill.ensures) in (
-      rw (← c.judge_symbols.ensures, c.in_ok-judge_symbols.was),
+      rw (← told, c.in_ok-judge_symbols.was),
       λ k q. let e : c.args.n ≡ k = cc in subst (λ (i : ℕ). OpenOf (family_for g.L.Layout.wide) c.args.m.now c.args.used i c.fill.new.t) e opened,
     )

@@ -63,14 +63,18 @@ returns-then-ne c =
     let unmarked : c.read_slot-found.result.state ≡ Erased → ⊥ = search rules in
     sym (sym-reinstate-none (code_of a.kind) a.m.now a.used a.n a.at (kind-other a.kind other) l (λ e. unmarked (sym r.0 ∙ e)))
 
+pub new-requires : goal.new-requires
+new-requires c =
+    let h = accepted-tells c.args.m.now c.args.used c.args.n c.requires.0 in
+    record { limit = h.limit; room = h.room; wide = c.requires.2; filled = c.requires.1.filled }
+
 pub sym_to_reinstate-requires : goal.sym_to_reinstate-requires
 sym_to_reinstate-requires c =
     let a = c.args in
     let h = accepted-tells a.m.now a.used a.n c.requires.0 in
     let r = read a.m.now a.at (c.place_of.ensures a.m.now a.n c.requires.1.ordered c.if-n-s.false) c.read_slot-found.ensures in
     let marked : c.read_slot-found.result.state ≡ Erased = search rules in (
-      h.low,
-      record { limit = h.limit; room = h.room; wide = c.requires.2; filled = c.requires.1.filled },
+      rw c.new.ensures.1 h.low,
       λ z. erased-len (slot_in a.m.now a.at) (r.0 ∙ marked) (ap (λ (t : Slot). t.len) r.1 ∙ z),
     )
 
@@ -81,7 +85,9 @@ returns c =
     let r = read a.m.now a.at (c.place_of.ensures a.m.now a.n c.requires.1.ordered l) c.read_slot-found.ensures in
     let other : c.args.kind ≡ Remove → ⊥ = search rules in
     let marked : c.read_slot-found.result.state ≡ Erased = search rules in
+    let e = c.new.ensures in
     c.sym_to_reinstate.ensures
+    ∙ (λ i. sym_to_reinstate (ends_meet index_block_size (e.2 i)) (e.0 i) (e.1 i) c.read_slot-found.result.slot)
     ∙ ap (λ (t : Slot). sym_to_reinstate (ends_meet index_block_size a.index.now) a.m.now a.used t) (sym r.1)
     ∙ reinstate-by (accepted-tells a.m.now a.used a.n c.requires.0) (λ i. (c.type_inv.m i).fits) a.at l (r.0 ∙ marked) c.requires.1.table
     ∙ sym (sym-reinstate (code_of a.kind) a.m.now a.used a.n a.at (kind-other a.kind other))

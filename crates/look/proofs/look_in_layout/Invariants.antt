@@ -3,4 +3,4 @@ use Rattle.look.proofs.Looks.{Marking}
 use Rattle.look.proofs.look_in_layout.Given as goal
 
 abbrev pub invariant-loop-k : goal.invariant-loop-k
-invariant-loop-k g l = Marking g.L.Layout.wide l.m l.w l.used l.n l.words l.at l.count l.k
+invariant-loop-k g l = Marking g.L.Layout.wide l.opened.map.m.now l.w l.opened.map.used l.opened.blocks l.words l.at l.count l.k

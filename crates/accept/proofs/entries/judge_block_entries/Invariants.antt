@@ -6,4 +6,4 @@ use Rattle.accept.proofs.Looking.{Looking}
 use Rattle.accept.proofs.entries.judge_block_entries.Given as goal
 
 abbrev pub invariant-loop-e : goal.invariant-loop-e
-invariant-loop-e g l = Looking (cell_in l.block entry_size) 256 (entry_fault g.L.Layout.wide l.m l.used l.index) l.e
+invariant-loop-e g l = Looking (cell_in l.block entry_size) 256 (entry_fault g.L.Layout.wide l.map.m.now l.map.used l.map.index.now) l.e

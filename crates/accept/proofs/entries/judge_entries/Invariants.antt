@@ -14,4 +14,4 @@ at-fault f m used n = f.entry_at_fault (touches_of f m n) m used
 abbrev pub invariant-loop-i : goal.invariant-loop-i
 invariant-loop-i g l =
     let f = family_for g.L.Layout.wide in
-    Along (symbol_rule_of f l.m l.n) l.m l.used entry_size l.k (at-fault f l.m l.used l.n) l.at l.i
+    Along (symbol_rule_of f l.opened.map.m.now l.opened.blocks) l.opened.map.m.now l.opened.map.used entry_size l.k (at-fault f l.opened.map.m.now l.opened.map.used l.opened.blocks) l.at l.i

@@ -25,29 +25,29 @@ pub loop-j-init : goal.loop-j-init
 loop-j-init g c =
     let a = c.args in
     let f : Family = family_for g.L.Layout.wide in
-    (look-start, sym (or-none (λ j. g.L.Layout.free a.m.now (cell_in a.block f.slot j)) 256))
+    (look-start, sym (or-none (λ j. g.L.Layout.free a.map.now.m.now (cell_in a.block f.slot j)) 256))
 
 pub slot_at_fault-requires : goal.slot_at_fault-requires
 unfolding cell_in
 slot_at_fault-requires g c =
-    (omega (arith, cell-fits g.L.Layout.wide c.loop-j.j c.loop-j-test.true, c.slot_place-at.ensures, c.requires.0), c.requires.1, c.requires.2)
+    (omega (arith, cell-fits g.L.Layout.wide c.loop-j.j c.loop-j-test.true, c.slot_place-at.ensures, c.requires.0), c.requires.1)
 
 pub overflow_cast-result : goal.overflow_cast-result
 unfolding cell_in
 overflow_cast-result g c =
-    omega (arith, cell-fits g.L.Layout.wide c.loop-j.j c.loop-j-test.true, c.slot_place-at.ensures, c.requires.0, c.requires.2.limit)
+    omega (arith, cell-fits g.L.Layout.wide c.loop-j.j c.loop-j-test.true, c.slot_place-at.ensures, c.requires.0, c.args.map.now.indexed.limit)
 
 pub is_free-requires : goal.is_free-requires
 unfolding cell_in
 is_free-requires g c =
-    omega (arith, cell-fits g.L.Layout.wide c.loop-j.j c.loop-j-test.true, c.slot_place-at.ensures, c.requires.0, c.requires.2.room)
+    omega (arith, cell-fits g.L.Layout.wide c.loop-j.j c.loop-j-test.true, c.slot_place-at.ensures, c.requires.0, c.args.map.now.indexed.room)
 
 pub returns-then-slot_at_fault : goal.returns-then-slot_at_fault
 returns-then-slot_at_fault g c =
     let a = c.args in
     let f : Family = family_for g.L.Layout.wide in
-    let cells : Judged = cells_judged BadSlot (λ j. slot_fault_for g.L.Layout.wide a.m.now a.used a.index.now (cell_in a.block f.slot j)) (cell_in a.block f.slot) 256 in
-    let free : ℕ = first (λ j. g.L.Layout.free a.m.now (cell_in a.block f.slot j)) 256 in
+    let cells : Judged = cells_judged BadSlot (λ j. slot_fault_for g.L.Layout.wide a.map.now.m.now a.map.now.used a.map.now.index.now (cell_in a.block f.slot j)) (cell_in a.block f.slot) 256 in
+    let free : ℕ = first (λ j. g.L.Layout.free a.map.now.m.now (cell_in a.block f.slot j)) 256 in
     let bad : Err (BadSlot c.slot_place-at.result) ≡ cells = look-bad c.loop-j.invariant.0 c.slot_place-at.ensures c.loop-j-test.true c.slot_at_fault.ensures c.if-slot_at_fault.true BadSlot in
     let told : ◌≡◌ {A = Result ℕ Refusal} (Err (BadSlot c.slot_place-at.result)) (unless cells (Ok free)) = ap (λ (j : Judged). unless j (Ok free)) bad in
     told
@@ -57,8 +57,8 @@ loop-j-preserved g c =
     let a = c.args in
     let l = c.loop-j in
     let f : Family = family_for g.L.Layout.wide in
-    let free : ℕ → Bool = λ j. g.L.Layout.free a.m.now (cell_in a.block f.slot j) in
-    let here = ap (g.L.Layout.free a.m.now) (sym c.slot_place-at.ensures) in
+    let free : ℕ → Bool = λ j. g.L.Layout.free a.map.now.m.now (cell_in a.block f.slot j) in
+    let here = ap (g.L.Layout.free a.map.now.m.now) (sym c.slot_place-at.ensures) in
     let found : c.if-is_free.free ≡ first_or free (l.j + 1) 256 =
     elim c.if-is_free.branch [
       | then-is_free w ↦ w.free-is ∙ w.min-free.ensures ∙ lesser-free l.free l.j ∙ ap (λ (x : ℕ). first_free true x l.j) l.invariant.1
@@ -72,7 +72,7 @@ pub returns : goal.returns
 returns g c =
     let a = c.args in
     let f : Family = family_for g.L.Layout.wide in
-    let free : ℕ → Bool = λ j. g.L.Layout.free a.m.now (cell_in a.block f.slot j) in
+    let free : ℕ → Bool = λ j. g.L.Layout.free a.map.now.m.now (cell_in a.block f.slot j) in
     let v = c.loop-j.invariant in
     let e : c.loop-j.j ≡ 256 = omega (arith, v.0.upto, c.loop-j-test.false) in
     rw (← look-good v.0 c.loop-j-test.false BadSlot) (ap Ok (v.1 ∙ ap (λ (x : ℕ). first_or free x 256) e ∙ or-all free 256))

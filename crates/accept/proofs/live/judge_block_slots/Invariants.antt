@@ -10,5 +10,5 @@ use Rattle.accept.proofs.live.judge_block_slots.Given as goal
 abbrev pub invariant-loop-j : goal.invariant-loop-j
 invariant-loop-j g l =
     let f = family_for g.L.Layout.wide in
-    Looking (cell_in l.block f.slot) 256 (slot_fault_for g.L.Layout.wide l.m l.used l.index) l.j
-    × (l.free ≡ first_or (λ j. g.L.Layout.free l.m (cell_in l.block f.slot j)) l.j 256)
+    Looking (cell_in l.block f.slot) 256 (slot_fault_for g.L.Layout.wide l.map.m.now l.map.used l.map.index.now) l.j
+    × (l.free ≡ first_or (λ j. g.L.Layout.free l.map.m.now (cell_in l.block f.slot j)) l.j 256)

@@ -15,5 +15,5 @@ at-fault f m used n = f.slot_at_fault (touches_of f m n) m used
 abbrev pub invariant-loop-k : goal.invariant-loop-k
 invariant-loop-k g l =
     let f = family_for g.L.Layout.wide in
-    Along (index_rule_of f l.m) l.m l.used f.slot l.n (at-fault f l.m l.used l.n) l.at l.k
-    × (l.free ≡ first_or (λ s. g.L.Layout.free l.m (slot_at_of f l.m s)) (256 * l.k) (256 * l.n))
+    Along (index_rule_of f l.opened.map.m.now) l.opened.map.m.now l.opened.map.used f.slot l.opened.blocks (at-fault f l.opened.map.m.now l.opened.map.used l.opened.blocks) l.at l.k
+    × (l.free ≡ first_or (λ s. g.L.Layout.free l.opened.map.m.now (slot_at_of f l.opened.map.m.now s)) (256 * l.k) (256 * l.opened.blocks))

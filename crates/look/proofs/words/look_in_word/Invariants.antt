@@ -10,5 +10,5 @@ use Rattle.look.proofs.words.look_in_word.Given as goal
 abbrev pub invariant-loop-j : goal.invariant-loop-j
 invariant-loop-j g l =
     let f = family_for g.L.Layout.wide in
-    Looking (slot_from f.slot l.from) word_bits (slot_fault_for g.L.Layout.wide l.m l.used l.index) l.j
-    × Looks (live_from f l.m l.w l.from) l.bits l.j
+    Looking (slot_from f.slot l.from) word_bits (slot_fault_for g.L.Layout.wide l.map.m.now l.map.used l.map.index.now) l.j
+    × Looks (live_from f l.map.m.now l.w l.from) l.bits l.j
