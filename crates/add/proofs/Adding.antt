@@ -1,6 +1,5 @@
 -- The laws of an add, as the code makes it: the first free slot, the writes, and the add by how it starts.
 --     lent-over           the whole after a run of stores at the start of a part that was lent to its end
---     object-over         the whole after a copy over a part
 --     length-free ..      the new length and the new map, with a free slot and without
 --     block-put           a block of zeros with a slot stored in it is the block for that slot
 --     fresh-malformed ..  an add under a new number, by its tests in their order
@@ -9,14 +8,13 @@
 use Prim.Native.Nat.{ℕ, ◌+◌, ◌-◌, ◌*◌, ◌≤◌, ◌<◌}
 use mathlib.Core.Bool.{Bool, true, false, cond, ◌&&◌}
 use mathlib.Core.Path.{◌≡◌, refl, sym, ap, ◌∙◌}
-use mathlib.Core.List.{List, ◌++◌, append_assoc, append-nil}
+use mathlib.Core.List.{List, ◌++◌, append_assoc}
 use native.Mathlib.Omega.{arith}
 use lib.Dec.{eqb, ltb}
 use lib.ListN.{length, take, drop, replicate, length-append, length-replicate, replicate-append-replicate}
-use Rattle.std.proofs.Math.Seq.{drop-length}
-use lib.Seq.{sets, take_at, drop_at}
+use lib.Seq.{sets, length-sets, take_at, drop_at}
 use borrow.Author.Tests.{lt-ltb, le-ltb, ltb-true, lt-leb, le-leb}
-use Rattle.numbers.proofs.Bytes.{lent-sets, sets-splice, sets-part, sets-front}
+use Rattle.numbers.proofs.Bytes.{lent-sets, sets-splice}
 use Rattle.slots.specs.declared.Slot.{Slot}
 use Rattle.slots.specs.Slots.{slot_bytes}
 use Rattle.records.specs.Journals.{record_for}
@@ -42,10 +40,6 @@ use Rattle.add.proofs.Objects.{offered-tells}
 pub lent-over : (vs xs ys : List ℕ) (a : ℕ) → a + length vs ≤ length xs → ys ≡ sets (take (length xs - a) (drop a xs)) 0 vs
     → take a xs ++ (ys ++ drop (length xs - a) (drop a xs)) ≡ sets xs a vs
 lent-over vs xs ys a h e = lent-sets vs xs ys a (length xs - a) (omega arith) e
-
--- a part that is written over whole
-pub object-over : (xs ys vs : List ℕ) (a : ℕ) → a + length vs ≤ length xs → ys ≡ vs → take a xs ++ (ys ++ drop (a + length vs - a) (drop a xs)) ≡ sets xs a vs
-object-over xs ys vs a h e = sets-part xs ys vs a (a + length vs - a) e (omega arith) h
 
 -- ---- with a free slot, and without
 
@@ -98,19 +92,14 @@ block-over xs t k h =
     ∙ over (replicate 4 0) (replicate 24 0) (replicate k 0) (slot_bytes t) xs (sym (length-slot_bytes t))
     (simp (length-replicate {A = ℕ} k 0) (omega arith))
 
--- a list that is written over all of another
-sets-all : (xs vs : List ℕ) → length vs ≡ length xs → sets xs 0 vs ≡ vs
-sets-all xs vs e = sym (sets-front xs vs vs (length xs) refl (sym e) (omega arith)) ∙ rw (drop-length xs) (append-nil vs)
-
--- as the code makes it: xs is a part of a block's size, l what was left of it when it was filled with zeros, and ys the slot's part of that
-pub block-put : (xs l ys : List ℕ) (t : Slot) → length xs ≡ 6148 → l ≡ replicate (length xs) 0 → ys ≡ sets (take (length l - 4) (drop 4 l)) 0 (slot_bytes t)
+-- as the code makes it: xs is a part of a block's size, l what was left of it when it was cleared, and ys the slot's part of that
+pub block-put : (xs l ys : List ℕ) (t : Slot) → length xs ≡ 6148 → l ≡ sets xs 0 (replicate (length xs) 0) → ys ≡ sets (take (length l - 4) (drop 4 l)) 0 (slot_bytes t)
     → take 4 l ++ (ys ++ drop (length l - 4) (drop 4 l)) ≡ sets xs 0 (block_for t)
 unfolding block_for
 block-put xs l ys t h e f =
-    let long : length l ≡ length xs = ap length e ∙ length-replicate {A = ℕ} (length xs) 0 in
-    let all : l ≡ sets xs 0 (replicate (length xs) 0) = e ∙ sym (sets-all xs (replicate (length xs) 0) (length-replicate {A = ℕ} (length xs) 0)) in
+    let long : length l ≡ length xs = ap length e ∙ length-sets xs 0 (replicate (length xs) 0) in
     lent-over (slot_bytes t) l ys 4 (omega (arith, length-slot_bytes t)) f
-    ∙ ap (λ (x : List ℕ). sets x 4 (slot_bytes t)) (all ∙ ap (λ (k : ℕ). sets xs 0 (replicate k 0)) h)
+    ∙ ap (λ (x : List ℕ). sets x 4 (slot_bytes t)) (e ∙ ap (λ (k : ℕ). sets xs 0 (replicate k 0)) h)
     ∙ block-over xs t 6120 (omega arith)
 
 -- ---- an offered object is not long

@@ -21,7 +21,7 @@ ghost use Rattle.add.specs.Adds.{new_length, added_map, repeat_add, fresh_add, a
 use accept::examine;
 use edit::{EditAnswer, EditStart, begin};
 use journal::{append, is_full, place_of};
-use numbers::{put_u32_at, u16_at};
+use numbers::{clear, copy_in, put_u32_at, same, u16_at};
 use records::{EditKind, Header, JournalRecord, LINK};
 use refusals::Refusal;
 use slots::{IndexBlock, ObjectHeader, Slot, bytes_in, len_of, type_good};
@@ -87,7 +87,7 @@ fn is_object(m: &[u8], used: usize, at: usize, o: &[u8]) -> bool
     if start < Header::SIZE || used < end {
         return false;
     }
-    &m[start..end] == o
+    same(&m[start..end], o)
 }
 
 // An add whose number is held.
@@ -117,7 +117,7 @@ fn write_in_slot(map: &mut [u8], used: usize, o: &[u8], at: usize, t: Slot)
     requires { (used + length o.now ≤ length map.old) × (at + slot_size ≤ length map.old) }
     ensures { map.new ≡ sets (sets map.old used o.now) at (slot_bytes t) }
 {
-    map[used..used + o.len()].copy_from_slice(o);
+    copy_in(&mut map[used..], o);
     t.put(&mut map[at..]);
 }
 
@@ -126,7 +126,8 @@ fn put_block(part: &mut [u8], t: Slot)
     requires { length part.old ≡ index_block_size }
     ensures { part.new ≡ sets part.old 0 (block_for t) }
 {
-    part.fill(0);
+    let size = part.len();
+    clear(part, size);
     t.put(&mut part[LINK..]);
 }
 
@@ -138,7 +139,7 @@ fn write_in_block(map: &mut [u8], used: usize, o: &[u8], link: usize, t: Slot)
         ≡ sets (sets (sets map.old used o.now) (used + length o.now) (block_for t)) link (bytes_of link_size (used + length o.now)) }
 {
     let block = used + o.len();
-    map[used..block].copy_from_slice(o);
+    copy_in(&mut map[used..], o);
     put_block(&mut map[block..block + IndexBlock::SIZE], t);
     put_u32_at(map, link, block as u32);
 }

@@ -4,7 +4,7 @@ use mathlib.Core.Bool.{Bool, true, false, not, cond}
 use mathlib.Core.Path.{◌≡◌, refl, sym, ap, ◌∙◌}
 use mathlib.Core.List.{List}
 use lib.Dec.{eqb}
-use borrow.Author.Tests.{eq-eqb, ne_eqb}
+use borrow.Author.Tests.{eqb-true, eq-eqb, ne_eqb}
 use Rattle.numbers.specs.Bytes.{u16_at}
 use Rattle.numbers.proofs.Below.{never}
 use Rattle.slots.specs.declared.Slot.{Slot}
@@ -47,6 +47,19 @@ live_some t e = rw (ne_eqb t.len 0 e) (go (eqb t.sym 0))
     go true = refl
     go false = refl
 
+-- the same, where the Len was read alone
+pub live_free : (m : List ℕ) (p : ℕ) → no_len m p ≡ true → same_state Live (state_of (slot_of m p)) ≡ false
+unfolding slot_of
+live_free m p e = live_none (slot_of m p) (eqb-true (u16_at m (p + 20)) 0 e)
+
+pub live_taken : (m : List ℕ) (p : ℕ) → no_len m p ≡ false → same_state Live (state_of (slot_of m p)) ≡ not (eqb (slot_of m p).sym 0)
+unfolding slot_of
+live_taken m p e = live_some (slot_of m p) (λ z. never (sym (eq-eqb (u16_at m (p + 20)) 0 z) ∙ e))
+
+pub len_taken : (m : List ℕ) (p : ℕ) → no_len m p ≡ false → (slot_of m p).len ≡ 0 → ⊥
+unfolding slot_of
+len_taken m p e z = never (sym (eq-eqb (u16_at m (p + 20)) 0 z) ∙ e)
+
 -- a slot that is live or erased has a Len
 pub len-some : (k : State) (t : Slot) → same_state k (state_of t) ≡ true → (k ≡ Free → ⊥) → t.len ≡ 0 → ⊥
 unfolding state_of
@@ -81,3 +94,7 @@ module _ (touch : ℕ → ℕ → Bool) (m : List ℕ) (used v p : ℕ) {t : Slo
 -- a slot with no Len is not at fault
 pub fault_none : (touch : ℕ → ℕ → Bool) (m : List ℕ) (used v p : ℕ) → (slot_of m p).len ≡ 0 → bad_slot touch m used v p ≡ false
 fault_none touch m used v p e = fault-free touch m used v p refl e
+
+pub fault_unjudged : (touch : ℕ → ℕ → Bool) (m : List ℕ) (used v p : ℕ) → no_len m p ≡ true → bad_slot touch m used v p ≡ false
+unfolding slot_of
+fault_unjudged touch m used v p e = fault_none touch m used v p (eqb-true (u16_at m (p + 20)) 0 e)

@@ -116,16 +116,15 @@ impl Layout for Narrow {
         Slot::at(m, at).len == 0
     }
 
-    #[tactic(auto, using(crate::proofs::States::live_none, crate::proofs::States::live_some))]
+    // Len is read first and alone: where many slots are free, no other field is read (DECISIONS, C9).
+    #[tactic(auto, using(crate::proofs::States::live_free, crate::proofs::States::live_taken))]
     fn is_live(m: &[u8], at: usize) -> bool {
-        let t = Slot::at(m, at);
-        t.len != 0 && t.sym != 0
+        !Self::is_free(m, at) && Slot::at(m, at).sym != 0
     }
 
-    #[tactic(auto, using(crate::proofs::States::fault_none))]
+    #[tactic(auto, using(crate::proofs::States::fault_unjudged, crate::proofs::States::len_taken))]
     fn slot_at_fault(map: &IndexedMap<Narrow>, version: u16, at: usize) -> bool {
-        let t = Slot::at(map.m, at);
-        t.len != 0 && bad_slot(map, version, t)
+        !Self::is_free(map.m, at) && bad_slot(map, version, Slot::at(map.m, at))
     }
 
     #[tactic(auto, unfolding(crate::specs::Judging::bad_entry))]

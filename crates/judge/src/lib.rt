@@ -21,6 +21,7 @@ use numbers::{at_most, u16_at};
 use records::{Header, Part, is_wide, size_good};
 use slots::{IndexBlock, ObjectHeader, Slot, bytes_in, bytes_in_range, type_good};
 pub use wide::Wide;
+use wide::WideBlock;
 
 // Setup or info: absent, or behind the header and inside the map.
 #[tactic(auto, unfolding(crate::specs::Judging::part_good, numbers::specs::Ranges::within))]
@@ -96,9 +97,9 @@ pub fn slot_place(version: u16, block: usize, j: usize) -> usize
     ensures { result ≡ cell_in block (family_in version).slot j }
 {
     if is_wide(version) {
-        Wide::slot_place(block, j)
+        WideBlock::new(block).slot(j)
     } else {
-        Narrow::slot_place(block, j)
+        IndexBlock::new(block).slot(j)
     }
 }
 

@@ -179,3 +179,7 @@ sets-append (u ∷ us) vs xs at = rw (add-suc at (length us), ← suc-add at (le
 pub get_or-sets : (vs xs : List ℕ) (at j : ℕ) → at + length vs ≤ length xs → (j < at) ⊎ (at + length vs ≤ j) → get_or (sets xs at vs) j 0 ≡ get_or xs j 0
 get_or-sets vs xs at j h (inl l) = get_or-sets-low vs xs at j l
 get_or-sets vs xs at j h (inr l) = get_or-sets-high vs xs at j l
+
+-- one store more, at the end of a run
+pub sets-snoc : (us xs : List ℕ) (at i v : ℕ) → at + length us ≡ i → set (sets xs at us) i v ≡ sets xs at (us ++ (v ∷ []))
+sets-snoc us xs at i v e = rw (← e) (sets-append us (v ∷ []) xs at)

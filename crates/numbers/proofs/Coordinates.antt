@@ -158,6 +158,11 @@ module _ (a b : ℕ) (f : a < 2 ^ 32) (g : b < 2 ^ 32) where
       rw (le_z-value a b f g, ← key-value a f, ← key-value b g)
       (leb-same x y (2139095040 + sign_flipped a / 256) (2139095040 + sign_flipped b / 256) (λ l. omega (arith, h l)) (λ l. omega (arith, k l)))
 
+  -- the same with the flipped bits, whose order without a sign is that of the values
+  pub unmarked-flipped : leb (unmarked (sign_flipped a)) (sign_flipped b) ≡ le_z (value_of a) (value_of b)
+  unfolding unmarked
+  unmarked-flipped = by_value (sign_flipped a / 256 * 256) (sign_flipped b) (λ l. omega arith) (λ l. omega arith)
+
   -- the marks of the second may stay
   pub unmarked-order : le_z (signed32 (unmarked a)) (signed32 b) ≡ le_z (value_of a) (value_of b)
   unfolding unmarked

@@ -5,6 +5,7 @@
 --     bytes_of n v       the n low bytes of v, least first
 --     same_bytes a b     whether two lists are equal, element by element
 --     Zeros xs lo hi    the elements from index lo to below hi are 0
+--     Alike a b lo hi   the elements from index lo to below hi are the same
 --     Tells x P         a test answers x exactly where P holds
 use Rattle.std.specs.Prelude.{List, [], ◌∷◌, Bool, true, false, ◌&&◌, ℕ, zero, suc, ◌+◌, ◌*◌, ◌/◌, ◌%◌, ◌≤◌, ◌<◌, ◌≡◌, eqb, get_or}
 
@@ -33,6 +34,9 @@ same_bytes (x ∷ xs) (y ∷ ys) = eqb x y && same_bytes xs ys
 
 abbrev pub Zeros : List ℕ → ℕ → ℕ → Type 0
 Zeros xs lo hi = (i : ℕ) → lo ≤ i → i < hi → get_or xs i 0 ≡ 0
+
+abbrev pub Alike : List ℕ → List ℕ → ℕ → ℕ → Type 0
+Alike a b lo hi = (i : ℕ) → lo ≤ i → i < hi → get_or a i 0 ≡ get_or b i 0
 
 pub record Tells (x : Bool) (P : Type 0) : Type 0 where
   pub so : x ≡ true → P

@@ -4,7 +4,7 @@
 ghost use Rattle.std.specs.Prelude.{◌≡◌, ◌+◌, ◌≤◌, ◌<◌, length, replicate};
 ghost use Rattle.std.proofs.lemmas.List.Edits.{sets};
 ghost use Rattle.std.specs.Int.Signed.{le_z};
-ghost use Rattle.numbers.specs.Bytes.{u16_at, u32_at, bytes_of, same_bytes, Zeros, Tells};
+ghost use Rattle.numbers.specs.Bytes.{u16_at, u32_at, bytes_of, same_bytes, Zeros, Alike, Tells};
 ghost use Rattle.numbers.specs.Coordinates.{signed32, value_of, unmarked};
 ghost use Rattle.numbers.specs.Ranges.{share};
 
@@ -120,12 +120,14 @@ pub fn ranges_share(a: usize, n: usize, b: usize, k: usize) -> bool
 
 // ---- runs of bytes
 
-// The bytes of s over the first of d.
+// The bytes of s over the first of d. The library's copy calls a function that a program for which the archive is linked would have to bring.
 pub fn copy_in(d: &mut [u8], s: &[u8])
     requires { length s.now ≤ length d.old }
     ensures { d.new ≡ sets d.old 0 s.now }
 {
-    d[..s.len()].copy_from_slice(s);
+    for (i, x) in s.iter().enumerate() {
+        d[i] = *x;
+    }
 }
 
 // n zeros over the first of d.
@@ -148,10 +150,31 @@ pub fn all_zero(b: &[u8], from: usize) -> bool
     zero
 }
 
-// Whether two slices hold the same bytes.
-#[tactic(auto, using(crate::proofs::Runs::pointwise_same))]
+// Whether two slices hold the same bytes from a place to another. The loop has no early end, as the library's comparison has, so that many bytes are compared
+// at a time.
+fn same_part(a: &[u8], b: &[u8], from: usize, to: usize) -> bool
+    requires { (from ≤ to) × (to ≤ length a.now) × (to ≤ length b.now) }
+    ensures { Tells result (Alike a.now b.now from to) }
+{
+    let mut alike = true;
+    for i in from..to {
+        alike &= a[i] == b[i];
+    }
+    alike
+}
+
+// Whether two slices hold the same bytes. They are compared 512 at a time: a part of a length that the compiler knows becomes vector instructions without a
+// loop.
 pub fn same(a: &[u8], b: &[u8]) -> bool
     ensures { result ≡ same_bytes a.now b.now }
 {
-    a == b
+    if a.len() != b.len() {
+        return false;
+    }
+    let parts = a.len() / 512;
+    let mut alike = true;
+    for k in 0..parts {
+        alike &= same_part(a, b, 512 * k, 512 * k + 512);
+    }
+    alike & same_part(a, b, 512 * parts, a.len())
 }

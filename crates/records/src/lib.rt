@@ -175,9 +175,9 @@ impl SymbolRecord {
 // What an edit does.
 #[derive(Clone, Copy, Debug, PartialEq, Eq)]
 pub enum EditKind {
-    Add = 1,
-    Remove = 2,
-    Reinstate = 3,
+    Add = JournalRecord::ADD as isize,
+    Remove = JournalRecord::REMOVE as isize,
+    Reinstate = JournalRecord::REINSTATE as isize,
 }
 
 // A number that stands for no kind of edit.
@@ -223,11 +223,11 @@ impl JournalRecord {
     // A journal is at most so long.
     pub const LIMIT: usize = 65536;
 
-    pub const ADD: u32 = EditKind::Add as u32;
+    pub const ADD: u32 = 1;
 
-    pub const REMOVE: u32 = EditKind::Remove as u32;
+    pub const REMOVE: u32 = 2;
 
-    pub const REINSTATE: u32 = EditKind::Reinstate as u32;
+    pub const REINSTATE: u32 = 3;
 
     // The record of a done edit.
     pub fn new(number: u32, kind: u32, slot: u32) -> JournalRecord

@@ -4,22 +4,39 @@
 
 ghost use Rattle.std.specs.Prelude.{◌≡◌, ℕ, ◌+◌, ◌*◌, ◌≤◌, ◌<◌, length, MatchOption};
 ghost use Rattle.std.proofs.Common.{lit≤};
-ghost use Rattle.records.specs.Sizes.{wide_block_size, wide_page, wide_slot_size, wide_header_size};
+ghost use Rattle.records.specs.Sizes.{wide_block_size, wide_page, wide_slot_size, wide_header_size, block_cells, link_size};
 ghost use Rattle.chain.specs.Tables.{ends_meet};
 ghost use Rattle.wide.specs.Slots.{wide_slot_of, wide_live, wide_object_of, wide_type_good, wide_bytes, wide_object_good, wide_slot_good, wide_bad_slot};
 ghost use Rattle.wide.specs.Symbols.{wide_symbol_good};
 
 use chain::{BlockSizes, IndexedMap};
 use numbers::{at_most, u16_at, u32_at};
-use records::Header;
+use records::{Header, LINK};
 
-// An index block of 9 to 11: a link, then 256 slots.
-pub struct WideBlock;
+// An index block of 9 to 11, by where it starts: a link, then 256 slots.
+#[derive(Clone, Copy)]
+pub struct WideBlock {
+    pub at: usize,
+}
 
 impl WideBlock {
     pub const SIZE: usize = 10244;
     // A table of them goes by pages of so many bytes.
     pub const PAGE: usize = 8192;
+
+    pub fn new(at: usize) -> WideBlock
+        ensures { result.at ≡ at }
+    {
+        WideBlock { at }
+    }
+
+    // Where slot j of the block stands.
+    pub fn slot(self, j: usize) -> usize
+        requires { (self.at ≤ 4294967296) × (j < block_cells) }
+        ensures { result ≡ self.at + link_size + wide_slot_size * j }
+    {
+        self.at + LINK + WideSlot::SIZE * j
+    }
 }
 
 // OCAD 9, 10 and 11.

@@ -95,19 +95,19 @@ abbrev plus : ℤ → ℤ
 plus z = to_z w64 (of_z w64 (times z +ℤ pos 255))
 
 module _ {z : ℤ} (f : SFits w32 z) where
-  cast_fits : SFits w64 (to_z w32 (of_z w32 z))
+  pub cast_fits : SFits w64 (to_z w32 (of_z w32 z))
   cast_fits = rw (to_z-of_z f) (sfits_widen tt f)
 
   cast_is : cast z ≡ z
   cast_is = to_z-of_z cast_fits ∙ to_z-of_z f
 
-  times-fits : SFits w64 (cast z *ℤ pos 256)
+  pub times-fits : SFits w64 (cast z *ℤ pos 256)
   times-fits = rw cast_is (least_fits z f)
 
   times-is : times z ≡ least z
   times-is = rw (to_z-of_z times-fits, cast_is)
 
-  plus-fits : SFits w64 (times z +ℤ pos 255)
+  pub plus-fits : SFits w64 (times z +ℤ pos 255)
   plus-fits = rw times-is (greatest-fits z f)
 
   plus-is : plus z ≡ greatest z

@@ -7,7 +7,7 @@ ghost use Rattle.records.specs.Sizes.{object_header_size, pair_size, window_size
 ghost use Rattle.windows.specs.Rectangles.{x_of, y_of, lesser_of, greater_of, point_at, joined, without_marks, rectangle_of};
 ghost use Rattle.windows.specs.Windows.{window_of, rectangle_at, window_good, meets_window};
 
-use numbers::{i32_at, signed_at_most, u32_at, without_marks};
+use numbers::{i32_at, signed_at_most, signed32_of, u32_at, without_marks};
 use slots::ObjectHeader;
 
 // A rectangle of raw coordinates.
@@ -143,9 +143,9 @@ pub fn window_good(w: Window) -> bool
 pub fn meets_window(r: Rectangle, w: Window) -> bool
     ensures { result ≡ meets_window r w }
 {
-    let left = i64::from(r.left.cast_signed()) <= i64::from(w.right) * 256 + 255;
-    let right = i64::from(w.left) * 256 <= i64::from(r.right.cast_signed());
-    let bottom = i64::from(r.bottom.cast_signed()) <= i64::from(w.top) * 256 + 255;
-    let top = i64::from(w.bottom) * 256 <= i64::from(r.top.cast_signed());
+    let left = i64::from(signed32_of(r.left)) <= i64::from(w.right) * 256 + 255;
+    let right = i64::from(w.left) * 256 <= i64::from(signed32_of(r.right));
+    let bottom = i64::from(signed32_of(r.bottom)) <= i64::from(w.top) * 256 + 255;
+    let top = i64::from(w.bottom) * 256 <= i64::from(signed32_of(r.top));
     left & right & bottom & top
 }

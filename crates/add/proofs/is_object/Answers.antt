@@ -1,9 +1,8 @@
 -- `add::is_object` meets its contract: each test that fails settles the answer, and the last one is that of the part of the map where the object lies.
 -- Assumes nothing.
 use Prim.Native.Nat.{◌+◌, ◌-◌}
-use mathlib.Core.Path.{◌≡◌, ◌∙◌}
+use mathlib.Core.Path.{◌≡◌}
 use native.Mathlib.Omega.{arith}
-use Rattle.numbers.proofs.Runs.{pointwise_same}
 use Rattle.numbers.proofs.Ranges.{within_low, within-high, within-is}
 use Rattle.slots.specs.Slots.{slot_of, bytes_in}
 use Rattle.judge.specs.Judging.{version_of}
@@ -31,4 +30,4 @@ returns c =
     let bytes : let a = c.args in c.bytes_in.result ≡ bytes_in (version_of a.m.now) (slot_of a.m.now a.at).len = rw (← c.u16_at.ensures, ← c.at-t.ensures) c.bytes_in.ensures in
     let t = c.at-t.result in
     let e : t.position + c.bytes_in.result - t.position ≡ c.bytes_in.result = omega arith in
-    rw (← bytes, ← c.at-t.ensures, within-is _ _ _ _ c.if-start-lt-SIZE.false c.if-used-end.false, ← e) (c.eq.ensures ∙ pointwise_same _ _)
+    rw (← bytes, ← c.at-t.ensures, within-is _ _ _ _ c.if-start-lt-SIZE.false c.if-used-end.false, ← e) c.same.ensures
