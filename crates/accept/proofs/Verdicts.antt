@@ -41,6 +41,10 @@ header-tells m used e = go (length_good m used) refl e
     go true f g = length-tells m used f
     go false f g = let z : ◌≡◌ {A = ℕ} 0 1 = cc in let no_way : ⊥ = omega arith in absurd no_way
 
+-- the same, by what the code answers
+pub header_passed : (m : List ℕ) (used : ℕ) {r : Judged} → r ≡ header_judged m used → r ≡ good → (header_size ≤ used) × (used ≤ map_limit) × (used ≤ length m)
+header_passed m used e f = header-tells m used (sym e ∙ f)
+
 -- ---- 6: the symbol blocks
 
 -- how many blocks an answer of the walk tells of: those that were taken

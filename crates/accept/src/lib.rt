@@ -146,6 +146,7 @@ fn judge_chains(m: &[u8], used: usize) -> Result<usize, Refusal>
 }
 
 // The check of the first `used` bytes of a buffer. Any slice, any `used`. Accepted, it answers with the number of index blocks.
+#[tactic(auto, using(crate::proofs::Verdicts::header_passed), unfolding(crate::specs::Verdicts::verdict))]
 pub fn check(m: &[u8], used: usize) -> Result<usize, Refusal>
     ensures { Checked m.now used result }
 {

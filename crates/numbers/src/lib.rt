@@ -120,7 +120,7 @@ pub fn ranges_share(a: usize, n: usize, b: usize, k: usize) -> bool
 
 // ---- runs of bytes
 
-// The bytes of s over the first of d. The library's copy calls a function that a program for which the archive is linked would have to bring.
+// The bytes of s over the first of d. The library's copy is a call of `memmove`, and the archive for C asks a program for `memset` alone.
 pub fn copy_in(d: &mut [u8], s: &[u8])
     requires { length s.now ≤ length d.old }
     ensures { d.new ≡ sets d.old 0 s.now }
