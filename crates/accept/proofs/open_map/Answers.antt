@@ -1,14 +1,14 @@
 -- `accept::open_map` meets its contract: the header's fault, or what opening the index blocks tells. Assumes nothing.
 use native.Mathlib.Omega.{arith}
-use mathlib.Core.Path.{sym, ◌∙◌}
+use mathlib.Core.Path.{◌∙◌}
 use Rattle.refusals.proofs.Passing.{passed_on}
 use Rattle.accept.specs.Opens.{opened_of}
-use Rattle.accept.proofs.Verdicts.{header-tells}
+use Rattle.accept.proofs.Verdicts.{header_passed}
 use Rattle.accept.proofs.open_map.Goals as goal
 
 pub open_index-requires : goal.open_index-requires
 open_index-requires c =
-    let h = header-tells c.args.m.now c.args.used (sym c.judge_header.ensures ∙ c.in_ok-judge_header.was) in
+    let h = header_passed c.args.m.now c.args.used c.judge_header.ensures c.in_ok-judge_header.was in
     (h.0, h.1, h.2, omega (arith, c.requires.0 h.1), c.requires.1)
 
 pub returns-in_err-judge_header : goal.returns-in_err-judge_header
